@@ -1,0 +1,3 @@
+pub mod Numeric
+pub mod Poll
+pub mod Drop

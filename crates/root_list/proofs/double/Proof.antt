@@ -1,0 +1,37 @@
+-- `root_list::double` meets its contract: without its sign's bit, a NaN's pattern is one above that of infinity. Assumes nothing.
+use mathlib.Core.Path.{_≡_, refl, sym, ap, _∙_, subst}
+use mathlib.Core.Bool.{Bool, true, false, not, true≢false}
+use Prim.Native.Nat.{ℕ, _%_, _^_, _<_}
+use native.Mathlib.Omega.{arith}
+use lib.Arith.{le→nltb}
+use lib.Dec.{T, ltb, lt→ltb}
+use lib.Ieee.{Float, nan, inf, fin, binary64, div, isNan, nanBits, ofBits}
+use lib.Ieee.Bits.{nanBits-is, nanBits-above}
+use Rattle.root_list.proofs.double.Statement.{statement}
+use Rattle.root_list.proofs.double.Tie as tie
+
+only-nan : (x : Float) → T (isNan x) → nan ≡ x
+unfolding isNan
+only-nan nan t = refl
+only-nan (inf s) t = absurd t
+only-nan (fin s m e) t = absurd t
+
+nan-made : div binary64 (ofBits binary64 0) (ofBits binary64 0) ≡ nan
+unfolding div ofBits
+nan-made = refl
+
+returns : tie.Need-returns
+returns c =
+    let b = c .before .args .b in
+    nan-made ∙ only-nan (ofBits binary64 b) (subst T (sym (nanBits-above binary64 b) ∙ nanBits-is binary64 b) (lt→ltb 0x7ff0_0000_0000_0000 (b % 2 ^ 63) (c .if1 .taken)))
+
+float-from-bits-result : tie.Need-float-from-bits-result
+float-from-bits-result c =
+    let b = c .before .args .b in
+    subst (λ (v : Bool). T (not v)) (sym (nanBits-above binary64 b)) (le→nltb 0x7ff0_0000_0000_0000 (b % 2 ^ 63) (c .if1 .left))
+
+returns-2 : tie.Need-returns-2
+returns-2 c = refl
+
+pub double-spec : {M : Type 1} → statement M
+double-spec = tie.close (tie.spec returns float-from-bits-result returns-2)
