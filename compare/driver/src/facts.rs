@@ -1,0 +1,145 @@
+//! What the papers say of every report, checked on each line; and how often the
+//! rarer ways through the text were taken.
+
+use crate::tally::WARNINGS;
+
+enum Tree {
+    Word(String),
+    List(Vec<Tree>),
+}
+
+impl Tree {
+    fn read(line: &str) -> Tree {
+        let mut open = vec![Vec::new()];
+        for part in line.replace('(', " ( ").replace(')', " ) ").split_whitespace() {
+            match part {
+                "(" => open.push(Vec::new()),
+                ")" => {
+                    let list = Tree::List(open.pop().expect("brackets"));
+                    open.last_mut().expect("brackets").push(list);
+                }
+                word => open.last_mut().expect("brackets").push(Tree::Word(word.to_string())),
+            }
+        }
+        open.pop().and_then(|mut whole| whole.pop()).expect("brackets")
+    }
+
+    fn at(&self, index: usize) -> &Tree {
+        match self {
+            Tree::List(parts) => &parts[index],
+            Tree::Word(_) => panic!("a word has no parts"),
+        }
+    }
+
+    fn parts(&self) -> &[Tree] {
+        match self {
+            Tree::List(parts) => parts,
+            Tree::Word(_) => &[],
+        }
+    }
+
+    fn word(&self) -> &str {
+        match self {
+            Tree::Word(word) => word,
+            Tree::List(_) => "",
+        }
+    }
+
+    fn double(&self) -> f64 {
+        f64::from_bits(u64::from_str_radix(self.word(), 16).expect("a double"))
+    }
+}
+
+const WAYS: [&str; 10] = [
+    "100 iterations",
+    "poll of 1,024 evaluations, converged",
+    "fit with a not-a-number",
+    "data condition not a number",
+    "effective count not a number",
+    "effective count 2",
+    "degrees of freedom without a reduced value",
+    "covariance, but a band without latent interval",
+    "latent interval of width 0",
+    "sensitivity ratio not a number",
+];
+
+#[derive(Default)]
+pub struct Facts {
+    ways: [u64; WAYS.len()],
+    broken: Vec<String>,
+}
+
+impl Facts {
+    pub fn check(&mut self, line: &str) {
+        let report = Tree::read(line);
+        let (diagnostics, approximation) = (report.at(9), report.at(10));
+        let converged = report.at(5).word() == "yes";
+        let available = approximation.at(0).word() == "Available";
+        let criterion = diagnostics.at(9).word();
+        let evaluations = diagnostics.at(12).word();
+        let warned: Vec<usize> = report
+            .at(12)
+            .parts()
+            .iter()
+            .map(|w| WARNINGS.iter().position(|c| *c == w.at(0).word()).expect("a known code"))
+            .collect();
+        let has = |code: usize| warned.contains(&code);
+
+        let mut claim = |holds: bool, text: &str| {
+            if !holds && self.broken.len() < 20 {
+                self.broken.push(format!("{text}: {line}"));
+            }
+        };
+        claim(
+            warned.windows(2).all(|w| w[0] < w[1]),
+            "warnings are in the source's order, once each",
+        );
+        claim(!(has(0) && has(1) || has(6) && has(7)), "exclusive warnings");
+        claim(has(6) != available, "unavailable is warned");
+        claim(!has(0) || has(6), "unconverged is unavailable");
+        claim(available || ![4, 5, 7, 8].iter().any(|c| has(*c)), "these need a covariance");
+        claim(converged == (criterion != "none"), "converged by a criterion");
+        let radius = diagnostics.at(10).word();
+        let least = if criterion == "ObjectiveMesh" { "3e7ad7f29abcaf48" } else { "none" };
+        claim(radius == least, "the radius is the least or none");
+        claim(evaluations.parse::<u64>().is_ok_and(|n| n <= 1024), "at most 1,024 evaluations");
+        claim(report.at(4).word().parse::<u64>().is_ok_and(|n| n <= 100), "at most 100 iterations");
+        let count = diagnostics.at(3);
+        claim((count.word() != "none") == available, "an effective count with a covariance");
+        if available {
+            let n = count.double();
+            claim(n.is_nan() || (0.0..=2.0).contains(&n), "effective count in 0..2");
+            let correlation = approximation.at(4).double();
+            claim((-1.0..=1.0).contains(&correlation), "correlation in -1..1");
+        }
+
+        let nan = |t: &Tree| t.word() != "none" && t.double().is_nan();
+        let bands = report.at(11).parts();
+        let taken = [
+            report.at(4).word() == "100",
+            converged && evaluations == "1024",
+            nan(report.at(2)) || nan(report.at(3)),
+            nan(diagnostics.at(7)),
+            nan(count),
+            count.word() == "4000000000000000",
+            diagnostics.at(4).word() != "none" && diagnostics.at(5).word() == "none",
+            available && bands.iter().any(|b| b.at(2).word() == "none"),
+            bands.iter().any(|b| b.at(2).word() != "none" && b.at(2).at(1).double() == 0.0),
+            nan(diagnostics.at(6)),
+        ];
+        for (count, taken) in self.ways.iter_mut().zip(taken) {
+            *count += taken as u64;
+        }
+    }
+
+    /// Prints the rarer ways and the claims that failed; says whether none did.
+    pub fn print(&self) -> bool {
+        for (name, count) in WAYS.iter().zip(self.ways) {
+            println!("way: {name:<47}{count:>10}");
+        }
+        for broken in &self.broken {
+            println!("not so: {broken}");
+        }
+        self.broken.is_empty()
+    }
+}
