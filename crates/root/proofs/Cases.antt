@@ -1,6 +1,6 @@
 -- The doubles that have no digits to find: not-a-number, the zeros, the negative ones and infinity, each by the test that the code makes. Assumes nothing.
 use mathlib.Core.Path.{_≡_, refl, sym, ap, _∙_, subst}
-use mathlib.Core.Logic.{_≢_, inl, inr}
+use mathlib.Core.Logic.{inl, inr}
 use Prim.Native.Nat.{ℕ, zero, suc, _+_, _*_, _/_, _%_, _^_, _≤_, _<_}
 use native.Mathlib.Nat.{eq-zero-or-pos, lt-irrefl, zero-lt-suc, mul-pos, mul-one, zero-mul}
 use mathlib.Core.Bool.{Bool, true, false, not, _&&_, _||_, Bool·beq, cond, true≢false}
@@ -13,7 +13,7 @@ use lib.Ieee.Fits.{up-pos, and-l}
 use Rattle.root.specs.Root.{rootOf}
 use Rattle.root.specs.Nearest.{infinity}
 
-truth : (b : Bool) → b ≡ true → T b
+pub truth : (b : Bool) → b ≡ true → T b
 truth b e = subst T (sym e) tt
 
 -- ---- not-a-number

@@ -1,15 +1,14 @@
 -- The theorems of specs/Nearest.antt: the definition gives the double that IEEE 754 asks for, and there is one only. Assumes nothing.
-use mathlib.Core.Path.{_≡_, refl, sym, ap, _∙_, subst}
-use mathlib.Core.Logic.{_⊎_, inl, inr}
-use mathlib.Core.Bool.{false}
+use mathlib.Core.Path.{_≡_, sym, ap, _∙_, subst}
+use mathlib.Core.Logic.{inl, inr}
 use Prim.Native.Nat.{ℕ, zero, suc, _+_, _-_, _*_, _^_, _≤_, _<_, zero-le}
-use native.Mathlib.Nat.{not-suc-le-zero, le-refl, le-trans, le-of-eq, le-of-lt, le-of-suc-le-suc, le-antisymm, lt-of-lt-of-le, lt-of-le-of-lt, lt-of-not-le, lt-irrefl, lt-trans, eq-or-lt-of-le, add-le-add, add-lt-add-of-lt-of-le, add-lt-add-of-le-of-lt, mul-pos, mul-le-mul, mul-le-mul-left, mul-le-mul-right, mul-lt-mul-of-pos-right, mul-lt-mul-of-pos-left}
+use native.Mathlib.Nat.{not-suc-le-zero, le-refl, le-trans, le-of-eq, le-of-lt, le-of-suc-le-suc, le-antisymm, lt-of-lt-of-le, lt-of-le-of-lt, lt-of-not-le, lt-irrefl, lt-trans, eq-or-lt-of-le, add-le-add, mul-pos, mul-le-mul, mul-le-mul-left, mul-le-mul-right, mul-lt-mul-of-pos-right, mul-lt-mul-of-pos-left}
 use native.Mathlib.Omega.{arith}
 use lib.Dec.{lit<}
 use lib.Pow.{pow-pos}
 use lib.Ieee.{binary64, ofBits, toBits}
 use lib.Ieee.Bits.{toBits-ofBits}
-use Rattle.root.specs.Root.{rootOf, isqrt}
+use Rattle.root.specs.Root.{isqrt}
 use Rattle.root.specs.Nearest.{magnitude, infinity, square, exact, NearestRoot, Nearest, Unique, Farther, Stands}
 use Rattle.root.specs.Steps.{Rounds}
 use Rattle.root.proofs.Patterns.{pattern-value, magnitude-lt, made-magnitude, no-nan}
@@ -55,14 +54,14 @@ square-lt-of a b h = lt-of-le-of-lt (mul-le-mul-left a (le-of-lt h)) (mul-lt-mul
 scaled-up : (N p : ℕ) → 4 * N * p ≡ 4 * (N * p)
 scaled-up N p = omega arith
 
+sum : (x p : ℕ) → x * p + suc x * p ≡ (2 * x + 1) * p
+sum x p = omega arith
+
 -- the midpoint to the next smaller number with as many digits dropped, x, and to the next larger one
 lower-mid : (N p x : ℕ) → 0 < p → Rounds N (suc x) → square (x * p + suc x * p) < 4 * (N * (p * p))
 lower-mid N p x h r =
     rw (sum x p, square-of (2 * x + 1) p, ← scaled-up N (p * p)) (mul-lt-mul-of-pos-right (less N x (r .lower)) (mul-pos h h))
   where
-    sum : (y z : ℕ) → y * z + suc y * z ≡ (2 * y + 1) * z
-    sum y z = omega arith
-
     less : (n y : ℕ) → suc y * suc y < n + suc y → (2 * y + 1) * (2 * y + 1) < 4 * n
     less n y l = omega arith
 
@@ -70,9 +69,6 @@ upper-mid : (N p q : ℕ) → 0 < p → Rounds N q → 4 * (N * (p * p)) < squar
 upper-mid N p q h r =
     rw (sum q p, square-of (2 * q + 1) p, ← scaled-up N (p * p)) (mul-lt-mul-of-pos-right (less N q (r .upper)) (mul-pos h h))
   where
-    sum : (y z : ℕ) → y * z + suc y * z ≡ (2 * y + 1) * z
-    sum y z = omega arith
-
     less : (n y : ℕ) → n ≤ y * y + y → 4 * n < (2 * y + 1) * (2 * y + 1)
     less n y l = omega arith
 

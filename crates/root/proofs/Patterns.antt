@@ -1,17 +1,17 @@
 -- Bit patterns of the doubles that are not negative: what number each stands for, that a larger pattern stands for a larger number,
 -- and that a pattern's fields are a significand and an exponent. Assumes nothing.
 use mathlib.Core.Path.{_≡_, refl, sym, ap, _∙_, subst}
-use mathlib.Core.Logic.{_≢_, _⊎_, inl, inr}
+use mathlib.Core.Logic.{_≢_, inl, inr}
 use Prim.Native.Nat.{ℕ, zero, suc, _+_, _-_, _*_, _/_, _%_, _^_, _≤_, _<_}
-use native.Mathlib.Nat.{le-add-right, not-suc-le-zero, le-of-suc-le-suc, le-trans, le-of-eq, lt-of-lt-of-le, lt-of-le-of-lt, not-le-of-lt, eq-or-lt-of-le, mod-eq-of-lt, mul-assoc, mul-comm, mul-le-mul-right, mul-le-mul-left, mul-lt-mul-of-pos-right, pow-succ', mul-div-cancel, zero-mul, mul-one}
+use native.Mathlib.Nat.{le-add-right, not-suc-le-zero, le-of-suc-le-suc, le-trans, lt-of-lt-of-le, lt-of-le-of-lt, not-le-of-lt, eq-or-lt-of-le, mod-eq-of-lt, mul-le-mul-right, mul-le-mul-left, mul-lt-mul-of-pos-right, pow-succ', mul-div-cancel, mul-one}
 use native.Mathlib.Omega.{arith}
 use mathlib.Core.Bool.{Bool, true, false, not, cond, true≢false}
 use lib.IntN.{ℤ}
 use lib.Arith.{le→nltb}
-use lib.Dec.{T, nltb→le, leb, ltb, eqb, leb→le, eqb→eq, not-T, lt→ltb, lit≤, lit<}
+use lib.Dec.{T, nltb→le, leb, ltb, eqb, leb→le, eqb→eq, not-T, lt→ltb, lit<}
 use lib.Pow.{pow-pos, pow-mono, pow-add, pow-lt}
 use lib.Ieee.{Float, nan, inf, fin, binary64, odd, units, size, up, down, ofFields, ofBits, toBits, fits, isNan, nanBits}
-use lib.Ieee.Bits.{is-true, is-false, cond-no, ofBits-toBits, toBits-ofBits, ofBits-fits, nanBits-is, nanBits-above}
+use lib.Ieee.Bits.{is-true, is-false, cond-no, ofBits-toBits, ofBits-fits, nanBits-is, nanBits-above}
 use lib.Ieee.Fits.{odd-fits, down-pos}
 use lib.Ieee.Exact.{HasValue, odd-sign, units-val}
 use Rattle.root.specs.Nearest.{fieldsMagnitude, magnitude, infinity}

@@ -1,18 +1,16 @@
 -- A finite pattern's number as m * 2 ^ e with m of 53 digits, and as N * 4 ^ k with N of 105 or 106. Assumes nothing.
-use mathlib.Core.Path.{_≡_, refl, sym, ap, _∙_, subst}
+use mathlib.Core.Path.{_≡_, refl, sym, ap, _∙_}
 use mathlib.Core.Logic.{inl, inr}
 use Prim.Native.Nat.{ℕ, zero, suc, _+_, _-_, _*_, _/_, _%_, _^_, _≤_, _<_}
-use native.Mathlib.Nat.{le-trans, le-of-eq, lt-of-lt-of-le, lt-irrefl, zero-lt-suc, eq-zero-or-pos, mul-assoc, mul-le-mul-right, mul-lt-mul-of-pos-right}
+use native.Mathlib.Nat.{le-trans, le-of-eq, lt-of-lt-of-le, zero-lt-suc, eq-zero-or-pos, mul-assoc, mul-le-mul-right, mul-lt-mul-of-pos-right}
 use native.Mathlib.Omega.{arith}
 use lib.Pow.{pow-pos, pow-add}
 use lib.Ieee.{size}
 use lib.Ieee.Digits.{size-lt, size-le, size-reaches}
-use Rattle.root.specs.Nearest.{magnitude, infinity, exact}
+use Rattle.root.specs.Nearest.{infinity, exact}
 use Rattle.root.specs.Steps.{Scales}
+use Rattle.root.proofs.Squares.{suc-pred}
 use Rattle.root.proofs.Patterns.{subnormal, normal}
-
-back : (x : ℕ) → 0 < x → x ≡ suc (x - 1)
-back x g = omega arith
 
 -- ---- m * 2 ^ e
 
@@ -24,7 +22,7 @@ normal-scales b l h =
       same =
           ap (λ (x : ℕ). m * x) (ap (λ (x : ℕ). 2 ^ x) (moved (b / 2 ^ 52) h) ∙ pow-add 2 f 1074)
           ∙ sym (mul-assoc m (2 ^ f) (2 ^ 1074))
-          ∙ ap (λ (x : ℕ). x * 2 ^ 1074) (sym (normal b f (back (b / 2 ^ 52) h)));
+          ∙ ap (λ (x : ℕ). x * 2 ^ 1074) (sym (normal b f (sym (suc-pred (b / 2 ^ 52) h))));
       least = omega arith;
       most = omega arith;
       low = omega arith;

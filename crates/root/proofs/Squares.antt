@@ -1,8 +1,7 @@
 -- Squares, whole roots and what the definition's rounding gives, over whole numbers alone. Assumes nothing.
-use mathlib.Core.Path.{_≡_, refl, sym, ap, _∙_, subst}
-use mathlib.Core.Logic.{_⊎_, inl, inr}
-use Prim.Native.Nat.{ℕ, zero, suc, _+_, _-_, _*_, _/_, _%_, _^_, _≤_, _<_, compare, Ordering, Ordering·lt, Ordering·eq, Ordering·gt}
-use native.Mathlib.Nat.{le-antisymm, lt-of-lt-of-le, lt-of-le-of-lt, lt-of-not-le, not-le-of-lt, le-of-suc-le-suc, lt-irrefl, mul-le-mul, pow-le-pow-left, eq-of-mul-eq-mul-right, lt-of-mul-lt-mul-right}
+use mathlib.Core.Path.{_≡_, sym, ap, _∙_, subst}
+use Prim.Native.Nat.{ℕ, zero, suc, _+_, _-_, _*_, _/_, _^_, _≤_, _<_, compare, Ordering, Ordering·lt, Ordering·eq, Ordering·gt}
+use native.Mathlib.Nat.{le-antisymm, lt-of-lt-of-le, lt-of-le-of-lt, lt-of-not-le, not-le-of-lt, le-of-suc-le-suc, lt-irrefl, mul-le-mul, pow-succ', pow-le-pow-left, eq-of-mul-eq-mul-right, lt-of-mul-lt-mul-right}
 use native.Mathlib.Omega.{arith}
 use mathlib.Core.Bool.{Bool, true, false, not, cond}
 use lib.Dec.{T, leb, isLe, isEq, eqb, leb→le, nleb→lt, eqb→eq, eqb-refl}
@@ -97,3 +96,11 @@ power-lt i p h = lt-of-not-le (λ (g : p ≤ i). lt-irrefl (2 ^ i) (lt-of-lt-of-
 
 pub size-is : (n j : ℕ) → 2 ^ j ≤ n → n < 2 ^ suc j → size n ≡ suc j
 size-is n j lo hi = le-antisymm (size-le n (suc j) hi) (power-lt j (size n) (lt-of-le-of-lt lo (size-lt n)))
+
+-- ---- a power of two by halves
+
+pub suc-pred : (x : ℕ) → 0 < x → suc (x - 1) ≡ x
+suc-pred x h = omega arith
+
+pub twice-pred : (k : ℕ) → 0 < k → 2 * 2 ^ (k - 1) ≡ 2 ^ k
+twice-pred k h = sym (pow-succ' 2 (k - 1)) ∙ ap (λ (x : ℕ). 2 ^ x) (suc-pred k h)

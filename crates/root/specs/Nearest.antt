@@ -20,10 +20,11 @@ magnitude b = fieldsMagnitude (b / 2 ^ 52) (b % 2 ^ 52)
 abbrev pub infinity : ℕ
 infinity = 0x7ff0_0000_0000_0000
 
--- The square of x, and the exact number x in units of 2 ^ -2148, which is what the square of a number in units of 2 ^ -1074 counts in.
+-- The square of a number. In units of 2 ^ -1074 its square counts in units of 2 ^ -2148.
 abbrev pub square : ℕ → ℕ
-square x = x * x
+square a = a * a
 
+-- The number that a pattern stands for, in units of 2 ^ -2148, to be compared with squares.
 abbrev pub exact : ℕ → ℕ
 exact x = magnitude x * 2 ^ 1074
 

@@ -3,13 +3,11 @@
 use mathlib.Core.Path.{_≡_, refl, sym, ap, _∙_}
 use mathlib.Core.Logic.{⊎-elim}
 use Prim.Native.Nat.{ℕ, zero, suc, _+_, _-_, _*_, _/_, _^_, _≤_, _<_}
-use native.Mathlib.Nat.{pow-succ', mul-one, zero-lt-suc}
+use native.Mathlib.Nat.{mul-one, zero-lt-suc}
 use native.Mathlib.Omega.{arith}
-use Rattle.root.specs.Steps.{Rounds}
+use Rattle.root.proofs.Squares.{twice-pred}
 use Rattle.root.proofs.digits.Statement.{statement}
 use Rattle.root.proofs.digits.Tie as tie
-use Rattle.root.proofs.digits.Reads as reads
-use Rattle.root.proofs.digits.Lts as lts
 
 record Digits (m q r p k : ℕ) : Type 0 where
   weight : p ≡ 2 ^ k
@@ -20,11 +18,8 @@ record Digits (m q r p k : ℕ) : Type 0 where
 -- ---- one turn, with h half of the weight
 
 halves : (p k : ℕ) → 0 < k → p ≡ 2 ^ k → (p ≡ 2 * (p / 2)) × (p / 2 ≡ 2 ^ (k - 1))
-halves p k h e = go p (2 ^ (k - 1)) (e ∙ ap (λ (x : ℕ). 2 ^ x) (sym (back k h)) ∙ pow-succ' 2 (k - 1))
+halves p k h e = go p (2 ^ (k - 1)) (e ∙ sym (twice-pred k h))
   where
-    back : (x : ℕ) → 0 < x → suc (x - 1) ≡ x
-    back x g = omega arith
-
     go : (x y : ℕ) → x ≡ 2 * y → (x ≡ 2 * (x / 2)) × (x / 2 ≡ y)
     go x y g = omega arith
 

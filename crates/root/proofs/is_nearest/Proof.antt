@@ -1,13 +1,14 @@
 -- `root::is_nearest` meets its contract: the square by parts, q = h * 2 ^ 27 + l and h * l = a * 2 ^ 24 + c. Assumes nothing.
-use mathlib.Core.Path.{_≡_, refl, sym, ap, _∙_, subst}
-use mathlib.Core.Bool.{Bool, true, false, _&&_, true≢false}
+use mathlib.Core.Path.{_≡_, sym, ap, _∙_}
+use mathlib.Core.Bool.{_&&_, true≢false}
 use Prim.Native.Nat.{ℕ, _+_, _-_, _*_, _/_, _%_, _^_, _≤_, _<_}
 use native.Mathlib.Nat.{mul-le-mul}
 use native.Mathlib.Omega.{arith}
-use lib.Dec.{T, ltb, leb, ltb→lt, leb→le}
+use lib.Dec.{ltb, leb, ltb→lt, leb→le}
 use lib.Ieee.Fits.{and-l, and-r}
 use borrow.Author.Needs.{needs}
 use Rattle.root.specs.Steps.{Rounds}
+use Rattle.root.proofs.Cases.{truth}
 use Rattle.root.proofs.is_nearest.Statement.{statement}
 use Rattle.root.proofs.is_nearest.Tie as tie
 
@@ -38,9 +39,6 @@ square-parts q h l a c e f = ap (λ (x : ℕ). x * x) e ∙ omega arith
 
 tested : (m q s d y : ℕ) → q * q ≡ s * 2 ^ 52 + y → d + s ≡ m + 2 → y + 2 ^ 53 < d * 2 ^ 52 + q → d * 2 ^ 52 ≤ y + 2 ^ 53 + q → Rounds (m * 2 ^ 52) q
 tested m q s d y e f g h = record { lower = omega arith; upper = omega arith }
-
-truth : (b : Bool) → b ≡ true → T b
-truth b e = subst T (sym e) tt
 
 mul-cross : tie.Need-mul-cross
 mul-cross c = omega (arith, cross (c .args .q) (c .pre .1))

@@ -1,14 +1,12 @@
 -- `root::normalized` meets its contract. The loop keeps m * 2 ^ e, and m is at least 2 to the number of its turns, so that e stays above 1022. The measure is e.
 -- Assumes nothing.
-use mathlib.Core.Path.{_≡_, refl, sym, ap, _∙_}
-use Prim.Native.Nat.{ℕ, suc, _+_, _-_, _*_, _^_, _≤_, _<_}
-use native.Mathlib.Nat.{pow-succ', mul-assoc, mul-comm, mul-le-mul-left, le-trans, le-of-eq, lt-of-le-of-lt, lt-of-lt-of-le}
+use mathlib.Core.Path.{_≡_, refl, ap, _∙_}
+use Prim.Native.Nat.{ℕ, suc, _-_, _*_, _^_, _≤_, _<_}
+use native.Mathlib.Nat.{pow-succ', mul-le-mul-left, lt-of-le-of-lt}
 use native.Mathlib.Omega.{arith}
-use Rattle.root.proofs.Squares.{power-lt}
+use Rattle.root.proofs.Squares.{power-lt, twice-pred}
 use Rattle.root.proofs.normalized.Statement.{statement}
 use Rattle.root.proofs.normalized.Tie as tie
-use Rattle.root.proofs.normalized.Reads as reads
-use Rattle.root.proofs.normalized.Lts as lts
 
 abbrev Inv-loop : tie.InvT-loop
 Inv-loop t m₀ e₀ m e = (m * 2 ^ e ≡ t * 2 ^ 1074) × (2 ^ (1074 - e) ≤ m) × (e ≤ 1074) × (m < 2 ^ 53)
@@ -31,16 +29,10 @@ at-most m e h l = left e (power-lt (1074 - e) 53 (lt-of-le-of-lt h l))
     left x g = omega arith
 
 doubled : (m e n : ℕ) → 0 < e → m * 2 ^ e ≡ n → 2 * m * 2 ^ (e - 1) ≡ n
-doubled m e n h s = ring m (2 ^ (e - 1)) ∙ ap (λ (x : ℕ). m * x) (halved e h) ∙ s
+doubled m e n h s = ring m (2 ^ (e - 1)) ∙ ap (λ (x : ℕ). m * x) (twice-pred e h) ∙ s
   where
     ring : (a p : ℕ) → 2 * a * p ≡ a * (2 * p)
     ring a p = omega arith
-
-    back : (x : ℕ) → 0 < x → suc (x - 1) ≡ x
-    back x g = omega arith
-
-    halved : (x : ℕ) → 0 < x → 2 * 2 ^ (x - 1) ≡ 2 ^ x
-    halved x g = sym (pow-succ' 2 (x - 1)) ∙ ap (λ (y : ℕ). 2 ^ y) (back x g)
 
 grown : (m e : ℕ) → 1022 < e → e ≤ 1074 → 2 ^ (1074 - e) ≤ m → 2 ^ (1074 - (e - 1)) ≤ 2 * m
 grown m e h l g = rw (once-more e h l, pow-succ' 2 (1074 - e)) (mul-le-mul-left 2 g)

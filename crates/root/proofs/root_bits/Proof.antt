@@ -1,12 +1,12 @@
 -- `root::root_bits` meets its contract: with the exponent made even, `root-is` says what the pattern is. Assumes nothing.
 use mathlib.Core.Path.{_≡_}
-use Prim.Native.Nat.{ℕ, _+_, _-_, _*_, _/_, _%_, _^_, _≤_, _<_}
+use Prim.Native.Nat.{ℕ, _+_, _-_, _*_, _/_, _^_, _≤_, _<_}
 use native.Mathlib.Omega.{arith}
 use borrow.Author.Needs.{needs}
 use lib.Ieee.{binary64, ofBits}
 use Rattle.root.specs.Root.{rootOf}
 use Rattle.root.specs.Nearest.{magnitude, infinity}
-use Rattle.root.specs.Steps.{Rounds, Scales}
+use Rattle.root.specs.Steps.{Rounds}
 use Rattle.root.proofs.Definition.{rounds-most, root-is}
 use Rattle.root.proofs.Scaling.{even-split, odd-split}
 use Rattle.root.proofs.root_bits.Statement.{statement}

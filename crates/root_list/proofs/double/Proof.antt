@@ -1,12 +1,12 @@
 -- `root_list::double` meets its contract: without its sign's bit, a NaN's pattern is one above that of infinity. Assumes nothing.
-use mathlib.Core.Path.{_≡_, refl, sym, ap, _∙_, subst}
-use mathlib.Core.Bool.{Bool, true, false, not, true≢false}
-use Prim.Native.Nat.{ℕ, _%_, _^_, _<_}
-use native.Mathlib.Omega.{arith}
+use mathlib.Core.Path.{_≡_, refl, sym, _∙_, subst}
+use mathlib.Core.Bool.{Bool, not}
+use Prim.Native.Nat.{_%_, _^_}
 use lib.Arith.{le→nltb}
-use lib.Dec.{T, ltb, lt→ltb}
-use lib.Ieee.{Float, nan, inf, fin, binary64, div, isNan, nanBits, ofBits}
+use lib.Dec.{T, lt→ltb}
+use lib.Ieee.{Float, nan, inf, fin, binary64, isNan, ofBits}
 use lib.Ieee.Bits.{nanBits-is, nanBits-above}
+use Rattle.root.proofs.Cases.{nan-made}
 use Rattle.root_list.proofs.double.Statement.{statement}
 use Rattle.root_list.proofs.double.Tie as tie
 
@@ -15,10 +15,6 @@ unfolding isNan
 only-nan nan t = refl
 only-nan (inf s) t = absurd t
 only-nan (fin s m e) t = absurd t
-
-nan-made : div binary64 (ofBits binary64 0) (ofBits binary64 0) ≡ nan
-unfolding div ofBits
-nan-made = refl
 
 returns : tie.Need-returns
 returns c =

@@ -1,22 +1,16 @@
 -- `root_list::pattern` meets its contract: only a NaN differs from itself. Assumes nothing.
 use mathlib.Core.Path.{_≡_, refl, sym, subst}
-use mathlib.Core.Bool.{true, false, not, true≢false}
 use Prim.Native.Nat.{ℕ}
 use lib.Dec.{T}
-use lib.Ieee.{Float, nan, inf, fin, binary64, ne, isNan, toBits}
+use lib.Ieee.{Float, nan, binary64, toBits}
 use lib.Ieee.Compare.{differs-from-itself}
+use Rattle.root.proofs.Cases.{not-nan}
 use Rattle.root_list.proofs.pattern.Statement.{statement}
 use Rattle.root_list.proofs.pattern.Tie as tie
 
 nan-pattern : _≡_ {A = ℕ} 0x7ff8_0000_0000_0000 (toBits binary64 nan)
 unfolding toBits
 nan-pattern = refl
-
-not-nan : (x : Float) → ne x x ≡ false → T (not (isNan x))
-unfolding ne isNan
-not-nan nan h = absurd (true≢false h)
-not-nan (inf s) h = tt
-not-nan (fin s m e) h = tt
 
 returns : tie.Need-returns
 returns c =
