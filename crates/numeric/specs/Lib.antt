@@ -1,3 +1,4 @@
 pub mod Numeric
 pub mod Poll
 pub mod Drop
+pub mod Laws

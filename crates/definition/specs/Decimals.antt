@@ -1,0 +1,72 @@
+-- The constants and the decimals of document 01 that they are nearest to, each decimal as a fraction. Theorem `nearest-to-decimals`, in proofs/Constants.antt: each
+-- constant is the double that its decimal rounds to.
+use Prim.Native.Nat.{ℕ, _^_}
+use mathlib.Core.Bool.{Bool, true, false, _&&_}
+use mathlib.Core.List.{List, [], _∷_}
+use lib.Dec.{T, eqb}
+use lib.Ieee.{Float, binary64, round, toBits}
+use Rattle.numeric.specs.Numeric.{zero64, one64, two64}
+use Rattle.numeric.specs.Drop.{degreesPerRadian}
+use Rattle.matrix.specs.Matrix.{tolerance}
+use Rattle.interval.specs.Interval.{level95, factor95}
+use Rattle.criteria.specs.Criteria.{mvMin, mvMax, bcMin, bcMax}
+use Rattle.definition.specs.Constants.{quarter, half, four, ten, mvScale, bcScale, stepFraction, leastMvStep, leastBcStep, firstDamping, leastDamping, leastDiagonal, leastDeterminant, flatGradient, firstRadius, leastRadius, varianceTolerance, leastSensitivityRatio, largestCondition, priorDominance, epsilon}
+
+pub record Decimal : Type 0 where
+  pub constant : Float
+  pub numerator : ℕ
+  pub denominator : ℕ
+
+abbrev pub decimal : Float → ℕ → ℕ → Decimal
+decimal x n d = record { constant = x; numerator = n; denominator = d }
+
+abbrev pub decimals : List Decimal
+decimals =
+    decimal zero64 0 1
+    ∷ decimal one64 1 1
+    ∷ decimal two64 2 1
+    ∷ decimal quarter 25 100
+    ∷ decimal half 5 10
+    ∷ decimal four 4 1
+    ∷ decimal ten 10 1
+    -- the range of the fit
+    ∷ decimal mvMin 1000 1
+    ∷ decimal mvMax 5000 1
+    ∷ decimal bcMin 5 100
+    ∷ decimal bcMax 2 1
+    -- scales and steps
+    ∷ decimal mvScale 100 1
+    ∷ decimal bcScale 1 10
+    ∷ decimal stepFraction 1 (10 ^ 3)
+    ∷ decimal leastMvStep 5 10
+    ∷ decimal leastBcStep 1 (10 ^ 4)
+    -- damping and gradient
+    ∷ decimal firstDamping 1 (10 ^ 6)
+    ∷ decimal leastDamping 1 (10 ^ 12)
+    ∷ decimal leastDiagonal 1 (10 ^ 12)
+    ∷ decimal leastDeterminant 1 (10 ^ 24)
+    ∷ decimal flatGradient 1 (10 ^ 6)
+    -- the poll
+    ∷ decimal firstRadius 1 (10 ^ 2)
+    ∷ decimal leastRadius 1 (10 ^ 7)
+    -- the rank test of the inverse, the bands' tolerance
+    ∷ decimal tolerance 1 (10 ^ 12)
+    ∷ decimal varianceTolerance 1 (10 ^ 12)
+    -- the intervals
+    ∷ decimal level95 95 100
+    ∷ decimal factor95 1959963984540054 (10 ^ 15)
+    -- the warnings
+    ∷ decimal leastSensitivityRatio 2 10
+    ∷ decimal largestCondition 1000 1
+    ∷ decimal priorDominance 8 10
+    ∷ decimal epsilon 1 (2 ^ 52)
+    -- 180/π, as Rust prints the double
+    ∷ decimal degreesPerRadian 5729577951308232 (10 ^ 14)
+    ∷ []
+
+abbrev pub areNearest : List Decimal → Bool
+areNearest [] = true
+areNearest (c ∷ cs) = eqb (toBits binary64 (c .constant)) (toBits binary64 (round binary64 false (c .numerator) (c .denominator))) && areNearest cs
+
+abbrev pub NearestToDecimals : Type 0
+NearestToDecimals = T (areNearest decimals)

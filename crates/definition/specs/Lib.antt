@@ -1,0 +1,16 @@
+pub mod Constants
+pub mod Lists
+pub mod Request
+pub mod Run
+pub mod Likelihood
+pub mod Mesh
+pub mod Fit
+pub mod Summary
+pub mod Whole
+pub mod Host
+pub mod Meaning
+pub mod Reading
+pub mod Decimals
+pub mod Figures
+pub mod Laws
+pub mod RunFigures

@@ -1,0 +1,29 @@
+-- `after_final`: by whether the gradient is flat.
+use mathlib.Core.Path.{sym, _∙_}
+use borrow.Author.Needs.{needs}
+use Rattle.fitting.proofs.Laws.{final-flat, final-mesh}
+use Rattle.fitting.proofs.after_final.Statement.{statement}
+use Rattle.fitting.proofs.after_final.Tie as tie
+
+is-flat-requires : tie.Need-is-flat-requires
+is-flat-requires c κs = search needs
+
+found-flat-requires : tie.Need-found-flat-requires
+found-flat-requires c κs = search needs
+
+returns : tie.Need-returns
+returns c h = record {
+  leads = λ m ds rows q.
+      c .found-flat .ensures h .leads m ds
+      ∙ final-flat (c .before .before .before .args .g) (c .before .before .before .args .e) m ds rows q (sym (c .before .before .is-flat .ensures) ∙ c .before .if1 .taken);
+  within = c .found-flat .ensures h .within;
+}
+
+returns-2 : tie.Need-returns-2
+returns-2 c h = record {
+  leads = λ m ds rows q. final-mesh (c .before .before .args .g) (c .before .before .args .e) m ds rows q (sym (c .before .is-flat .ensures) ∙ c .if1 .left);
+  within = h;
+}
+
+pub after-final-spec : {M : Type 1} → statement M
+after-final-spec = tie.close (tie.spec is-flat-requires found-flat-requires returns returns-2)

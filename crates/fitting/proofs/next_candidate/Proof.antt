@@ -1,0 +1,31 @@
+-- `next_candidate`: by the next trial that is asked about, or none.
+use mathlib.Core.Path.{sym, _∙_}
+use borrow.Author.Needs.{needs}
+use Rattle.fitting.proofs.Laws.{candidate-next, candidate-none}
+use Rattle.fitting.proofs.next_candidate.Statement.{statement}
+use Rattle.fitting.proofs.next_candidate.Tie as tie
+
+next-trial-requires : tie.Need-next-trial-requires
+next-trial-requires c κs = search needs
+
+enum-known-next : tie.Need-enum-known-next
+enum-known-next c = search needs
+
+enum-told : tie.Need-enum-told
+enum-told c = search needs
+
+returns : tie.Need-returns
+returns c h = record {
+  leads = λ m ds.
+      candidate-next (c .before .before .before .before .before .before .before .before .before .args .g) _ _ _ m ds (sym (c .before .before .before .before .next .given .1) ∙ c .before .before .before .before .before .before .next-trial .ensures);
+  within = h;
+}
+
+returns-2 : tie.Need-returns-2
+returns-2 c h = record {
+  leads = λ m ds. candidate-none (c .before .before .before .before .before .args .g) m ds (sym (c .enum-told .given .1) ∙ c .before .before .next-trial .ensures);
+  within = h;
+}
+
+pub next-candidate-spec : {M : Type 1} → statement M
+next-candidate-spec = tie.close (tie.spec next-trial-requires enum-known-next enum-told returns returns-2)

@@ -1,0 +1,26 @@
+-- `start`: the first of a hundred iterations.
+use mathlib.Core.Path.{_∙_, ap}
+use borrow.Author.Needs.{needs}
+use native.Mathlib.Omega.{arith}
+use Rattle.definition.specs.Constants.{firstDamping}
+use Rattle.definition.specs.Run.{bind}
+use Rattle.definition.specs.Fit.{iterate}
+use Rattle.definition.specs.Whole.{fitted}
+use Rattle.definition.specs.declared.Point.{Point}
+use Rattle.fitting.proofs.start.Statement.{statement}
+use Rattle.fitting.proofs.start.Tie as tie
+
+blank-requires : tie.Need-blank-requires
+blank-requires c κs = search needs
+
+next-iteration-requires : tie.Need-next-iteration-requires
+next-iteration-requires c κs = search needs
+
+returns : tie.Need-returns
+returns c = record {
+  leads = λ m ds. c .next-iteration .ensures (omega arith) .leads m ds ∙ ap (λ (p : Point). bind (iterate m 100 p (c .before .before .before .before .before .args .value) firstDamping 0) (fitted m ds)) (c .before .before .before .before .blank .ensures);
+  within = c .next-iteration .ensures (omega arith) .within;
+}
+
+pub start-spec : {M : Type 1} → statement M
+start-spec = tie.close (tie.spec blank-requires next-iteration-requires returns)

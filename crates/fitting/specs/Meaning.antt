@@ -1,0 +1,108 @@
+-- What the numbers of a fit stand for: what is left of the run, for every request.
+use Prim.Native.Nat.{ℕ, zero, suc, _-_, _≤_, _<_}
+use mathlib.Core.Path.{_≡_}
+use mathlib.Core.List.{List}
+use lib.Ieee.{Float}
+use Rattle.definition.specs.Request.{Requested, Measured}
+use Rattle.definition.specs.Run.{Run, done, bind}
+use Rattle.definition.specs.Likelihood as likelihood
+use Rattle.definition.specs.Constants.{firstDamping}
+use Rattle.definition.specs.Mesh as mesh
+use Rattle.definition.specs.Fit as fit
+use Rattle.definition.specs.Summary.{Finished}
+use Rattle.definition.specs.Whole as whole
+use Rattle.definition.specs.declared.Point.{Point}
+use Rattle.definition.specs.declared.Evaluation.{Evaluation}
+use Rattle.definition.specs.Meaning.{convergenceOf}
+use Rattle.objective_mesh.specs.Meaning.{passOf, pollOf}
+use Rattle.objective_mesh.specs.declared.Poll.{Poll}
+use Rattle.fitting.specs.declared.Progress.{Progress}
+use Rattle.fitting.specs.declared.Stage.{Stage}
+use Rattle.fitting.specs.declared.Stage.the-variants as Stage
+use Rattle.fitting.specs.declared.Wait.{Wait}
+use Rattle.fitting.specs.declared.Wait.the-variants as Wait
+use Rattle.fitting.specs.declared.Moved.{Moved}
+
+-- the iterations begun: those that are not left
+abbrev pub iterationsOf : Progress → ℕ
+iterationsOf g = 100 - g .left
+
+-- the fit, once it has ended
+abbrev pub fitOf : Progress → fit.Fit
+fitOf g = record { point = g .point; iterations = iterationsOf g; convergence = convergenceOf (g .convergence); evaluations = g .evaluations }
+
+module _ (m : Measured) (ds : List Requested) (g : Progress) where
+  -- the iterations after this one
+  abbrev pub onward : Point → Float → Float → Run fit.Fit
+  onward q value damping = fit.iterate m (g .left) q value damping (iterationsOf g)
+
+  abbrev pub trialsLeft : ℕ → Float → Run fit.Trial
+  trialsLeft left damping = fit.trials m (g .point) (g .current) (g .evaluation) left damping
+
+  -- what follows the damping trials, and the poll
+  abbrev pub afterTrials : fit.Trial → Run Finished
+  afterTrials t = bind (fit.onTrial m onward (fit.verify m (g .point) (g .current) (iterationsOf g)) t) (whole.fitted m ds)
+
+  abbrev pub afterPoll : mesh.Poll → Run Finished
+  afterPoll r = whole.fitted m ds (fit.polled (iterationsOf g) r)
+
+  -- what follows the rows of an evaluation
+  abbrev pub afterRows : Stage → likelihood.Rows → Run Finished
+  afterRows Stage.Iteration rows = bind (fit.evaluated m onward (g .point) (g .current) (g .damping) (iterationsOf g) rows) (whole.fitted m ds)
+  afterRows Stage.Final rows = bind (fit.verified m (g .point) (g .current) (iterationsOf g) rows) (whole.fitted m ds)
+  afterRows Stage.Mesh rows = bind (fit.meshed m (g .point) (g .current) (iterationsOf g) rows) (whole.fitted m ds)
+  afterRows Stage.AtFit rows = whole.banded m ds (fitOf g) (likelihood.evaluationOf m (g .point) rows) (rows .predicted)
+
+  -- what follows an objective at a candidate
+  abbrev pub afterTrial : Point → Float → Run Finished
+  afterTrial q value = bind (fit.tried m (g .point) (g .current) (g .evaluation) (trialsLeft (g .trials)) (g .damping) q value) afterTrials
+
+  abbrev pub afterLook : Point → Float → Run Finished
+  afterLook c value = bind (mesh.poll m (1023 - g .pass .evaluations) (mesh.seen c value (passOf (g .pass)))) afterPoll
+
+  -- what is left of the run
+  abbrev pub restOf : Wait → Run Finished
+  restOf (Wait.Evaluation stage) = bind (likelihood.evaluate (g .point)) (afterRows stage)
+  restOf (Wait.Trial q) = bind (likelihood.objective m q) (afterTrial q)
+  restOf (Wait.Look c) = bind (likelihood.objective m c) (afterLook c)
+
+-- the numbers are within a fit's limits: at most 100 iterations, and a look before the 1,024 evaluations are used up
+abbrev pub withinWait : Progress → Wait → Type 0
+withinWait g (Wait.Evaluation stage) = g .left ≤ 100
+withinWait g (Wait.Trial q) = g .left ≤ 100
+withinWait g (Wait.Look c) = (g .left ≤ 100) × (g .pass .evaluations < 1024)
+
+abbrev pub Continuation : Type 0
+Continuation = Measured → List Requested → Run Finished
+
+-- the answer stands for this rest of the run, whatever was requested
+pub record Moves (r : Moved) (t : Continuation) : Type 0 where
+  pub leads : (m : Measured) (ds : List Requested) → restOf m ds (r .progress) (r .wait) ≡ t m ds
+  pub within : withinWait (r .progress) (r .wait)
+
+-- the answer stands for what follows rows that come to this evaluation
+pub record AfterRows (r : Moved) (g : Progress) (stage : Stage) (e : Evaluation) : Type 0 where
+  pub leads : (m : Measured) (ds : List Requested) (rows : likelihood.Rows) → likelihood.evaluationOf m (g .point) rows ≡ e
+      → restOf m ds (r .progress) (r .wait) ≡ afterRows m ds g stage rows
+  pub within : withinWait (r .progress) (r .wait)
+
+abbrev pub foundAt : Progress → Continuation
+foundAt g m ds = whole.fitted m ds (fitOf g)
+
+abbrev pub flatAt : Progress → Continuation
+flatAt g m ds = whole.fitted m ds (fit.found (g .point) (iterationsOf g) mesh.scaledGradient)
+
+abbrev pub iterationAt : Progress → Continuation
+iterationAt g m ds = bind (fit.iterate m (g .left) (g .point) (g .current) (g .damping) (iterationsOf g)) (whole.fitted m ds)
+
+abbrev pub candidateAt : Progress → Continuation
+candidateAt g m ds = bind (trialsLeft m ds g (g .trials) (g .damping)) (afterTrials m ds g)
+
+abbrev pub polledAt : Progress → Poll → Continuation
+polledAt g r m ds = afterPoll m ds g (pollOf r)
+
+abbrev pub pollAt : Progress → Continuation
+pollAt g m ds = bind (mesh.poll m (1024 - g .pass .evaluations) (passOf (g .pass))) (afterPoll m ds g)
+
+abbrev pub startAt : Point → Float → Continuation
+startAt entered value m ds = bind (fit.iterate m 100 entered value firstDamping 0) (whole.fitted m ds)

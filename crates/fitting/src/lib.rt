@@ -1,0 +1,260 @@
+// `fit_map` as steps between questions, on the numbers of a fit alone: which question comes next once an evaluation or an objective is there.
+use definition::Convergence;
+use definition::Evaluation;
+use definition::Point;
+use map_fit::NextTrial;
+use matrix::Symmetric2;
+use objective_mesh::Pass;
+use objective_mesh::Poll;
+use objective_mesh::Turn;
+ghost use mathlib.Core.Path.{_≡_};
+ghost use Prim.Native.Nat.{_≤_, _<_};
+ghost use Rattle.fitting.specs.Meaning.{Moves, AfterRows, foundAt, flatAt, iterationAt, candidateAt, polledAt, pollAt, startAt, afterTrial, afterLook};
+ghost use Rattle.fitting.specs.declared.Stage.the-variants as StageOf;
+
+// How many iterations a fit has at the most, and how many damping trials each.
+const MAX_ITERATIONS: usize = 100;
+
+const MAX_TRIALS: usize = 30;
+
+const FIRST_DAMPING: f64 = 1.0e-6;
+
+// What a fit holds between two questions.
+pub struct Progress {
+    // the point with its objective, and the damping to go on with
+    pub point: Point,
+    pub current: f64,
+    pub damping: f64,
+    // iterations left after this one, and damping trials left in it
+    pub left: usize,
+    pub trials: usize,
+    // the last evaluation, and the poll
+    pub evaluation: Evaluation,
+    pub pass: Pass,
+    // how the fit was verified, and by how many poll evaluations
+    pub convergence: Convergence,
+    pub evaluations: usize,
+}
+
+// What the evaluation that is asked for is wanted for.
+pub enum Stage {
+    Iteration,
+    Final,
+    Mesh,
+    AtFit,
+}
+
+// What is waited for: the five questions of an evaluation, or one objective.
+pub enum Wait {
+    Evaluation(Stage),
+    Trial(Point),
+    Look(Point),
+}
+
+pub struct Moved {
+    pub progress: Progress,
+    pub wait: Wait,
+}
+
+// The fit has ended: the evaluation at it comes next.
+fn found(g: Progress) -> Moved
+    ensures { λ r. ⌜ (g .left ≤ 100 → Moves r (foundAt g)) ⌝ }
+{
+    Moved {
+        progress: g,
+        wait: Wait::Evaluation(Stage::AtFit),
+    }
+}
+
+// The fit has ended by its gradient.
+fn found_flat(g: Progress) -> Moved
+    ensures { λ r. ⌜ (g .left ≤ 100 → Moves r (flatAt g)) ⌝ }
+{
+    found(Progress {
+        convergence: Convergence::ScaledGradient,
+        evaluations: 0,
+        ..g
+    })
+}
+
+// The next iteration, or, with none left, the final evaluation.
+fn next_iteration(g: Progress) -> Moved
+    ensures { λ r. ⌜ (g .left ≤ 100 → Moves r (iterationAt g)) ⌝ }
+{
+    if g.left == 0 {
+        return Moved {
+            progress: g,
+            wait: Wait::Evaluation(Stage::Final),
+        };
+    }
+    let left = g.left - 1;
+    Moved {
+        progress: Progress { left, ..g },
+        wait: Wait::Evaluation(Stage::Iteration),
+    }
+}
+
+// The next candidate of the iteration, or, with no trial left, the final evaluation.
+fn next_candidate(g: Progress) -> Moved
+    ensures { λ r. ⌜ (g .left ≤ 100 → Moves r (candidateAt g)) ⌝ }
+{
+    let p = g.point;
+    let e = g.evaluation;
+    let next = map_fit::next_trial(p, e, g.trials, g.damping);
+    match next {
+        NextTrial::Candidate(q, trials, damping) => Moved {
+            progress: Progress {
+                trials,
+                damping,
+                ..g
+            },
+            wait: Wait::Trial(q),
+        },
+        NextTrial::Exhausted => Moved {
+            progress: g,
+            wait: Wait::Evaluation(Stage::Final),
+        },
+    }
+}
+
+// The poll has ended.
+fn polled(g: Progress, r: Poll) -> Moved
+    ensures { λ s. ⌜ (g .left ≤ 100 → Moves s (polledAt g r)) ⌝ }
+{
+    let point = r.point;
+    let convergence = r.convergence;
+    found(Progress {
+        point,
+        convergence,
+        evaluations: r.evaluations,
+        ..g
+    })
+}
+
+// The next candidate of the poll, or its end.
+fn next_look(g: Progress) -> Moved
+    ensures { λ r. ⌜ (g .left ≤ 100 → Moves r (pollAt g)) ⌝ }
+{
+    let pass = g.pass;
+    if pass.evaluations >= objective_mesh::MAP_OBJECTIVE_MAX_POLL_EVALUATIONS {
+        let r = objective_mesh::stopped(pass);
+        return polled(g, r);
+    }
+    let turn = objective_mesh::next_turn(pass);
+    match turn {
+        Turn::Evaluates(c, pass) => Moved {
+            progress: Progress { pass, ..g },
+            wait: Wait::Look(c),
+        },
+        Turn::Ended(r) => polled(g, r),
+    }
+}
+
+// What a fit holds before its first objective is there.
+pub fn blank(entered: Point) -> Progress
+    ensures { λ r. ⌜ r .point ≡ entered ⌝ }
+{
+    let none = Symmetric2 {
+        a00: 0.0,
+        a01: 0.0,
+        a11: 0.0,
+    };
+    let evaluation = Evaluation {
+        data_information: none,
+        posterior_information: none,
+        gradient_mv: 0.0,
+        gradient_bc: 0.0,
+        chi_square: 0.0,
+        prior_penalty: 0.0,
+        bc_sensitivity_ratio: 0.0,
+        data_condition_number: 0.0,
+    };
+    let pass = objective_mesh::first_pass(none, entered, 0.0);
+    Progress {
+        point: entered,
+        current: 0.0,
+        damping: FIRST_DAMPING,
+        left: MAX_ITERATIONS,
+        trials: MAX_TRIALS,
+        evaluation,
+        pass,
+        convergence: Convergence::NotConverged,
+        evaluations: 0,
+    }
+}
+
+// The objective at the entered point is there.
+pub fn start(entered: Point, value: f64) -> Moved
+    ensures { λ r. ⌜ Moves r (startAt entered value) ⌝ }
+{
+    let g = blank(entered);
+    next_iteration(Progress {
+        current: value,
+        damping: FIRST_DAMPING,
+        left: MAX_ITERATIONS,
+        ..g
+    })
+}
+
+// The evaluation of an iteration is there.
+pub fn after_iteration(g: Progress, e: Evaluation) -> Moved
+    ensures { λ r. ⌜ (g .left ≤ 100 → AfterRows r g StageOf.Iteration e) ⌝ }
+{
+    if map_fit::is_flat(e) {
+        return found_flat(g);
+    }
+    next_candidate(Progress {
+        evaluation: e,
+        trials: MAX_TRIALS,
+        ..g
+    })
+}
+
+// The final evaluation is there.
+pub fn after_final(g: Progress, e: Evaluation) -> Moved
+    ensures { λ r. ⌜ (g .left ≤ 100 → AfterRows r g StageOf.Final e) ⌝ }
+{
+    if map_fit::is_flat(e) {
+        return found_flat(g);
+    }
+    Moved {
+        progress: g,
+        wait: Wait::Evaluation(Stage::Mesh),
+    }
+}
+
+// The poll's own evaluation is there: it gives the directions.
+pub fn after_mesh(g: Progress, e: Evaluation) -> Moved
+    ensures { λ r. ⌜ (g .left ≤ 100 → AfterRows r g StageOf.Mesh e) ⌝ }
+{
+    let p = g.point;
+    let information = e.posterior_information;
+    let pass = objective_mesh::first_pass(information, p, g.current);
+    next_look(Progress { pass, ..g })
+}
+
+// The objective at a candidate of the damping trials is there.
+pub fn after_trial(g: Progress, q: Point, value: f64) -> Moved
+    ensures { λ r. ⌜ (g .left ≤ 100 → Moves r (λ m ds. afterTrial m ds g q value)) ⌝ }
+{
+    if criteria::objective_improvement_is_material(g.current, value) {
+        let damping = map_fit::lowered(g.damping);
+        return next_iteration(Progress {
+            point: q,
+            current: value,
+            damping,
+            ..g
+        });
+    }
+    let damping = map_fit::raised(g.damping);
+    next_candidate(Progress { damping, ..g })
+}
+
+// The objective at a candidate of the poll is there.
+pub fn after_look(g: Progress, c: Point, value: f64) -> Moved
+    ensures { λ r. ⌜ (g .left ≤ 100 → g .pass .evaluations < 1024 → Moves r (λ m ds. afterLook m ds g c value)) ⌝ }
+{
+    let before = g.pass;
+    let pass = objective_mesh::seen(c, value, before);
+    next_look(Progress { pass, ..g })
+}

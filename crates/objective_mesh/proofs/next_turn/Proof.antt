@@ -1,0 +1,29 @@
+-- `next_turn` meets its contract: each answer of the look by its law over plain values. Assumes nothing.
+use borrow.Author.Needs.{needs}
+use Rattle.objective_mesh.specs.Meaning.{passOf}
+use Rattle.objective_mesh.proofs.Laws.{turn-moved, turn-none}
+use Rattle.objective_mesh.proofs.next_turn.Statement.{statement}
+use Rattle.objective_mesh.proofs.next_turn.Tie as tie
+
+look-requires : tie.Need-look-requires
+look-requires c κs = search needs
+
+enum-known-found : tie.Need-enum-known-found
+enum-known-found c = search needs
+
+enum-told : tie.Need-enum-told
+enum-told c = search needs
+
+judged-requires : tie.Need-judged-requires
+judged-requires c κs = search needs
+
+returns : tie.Need-returns
+returns c =
+    turn-moved (passOf (c .before .before .before .before .before .before .before .before .before .args .s)) (c .before .before .before .before .before .before .look .ensures) (c .before .before .before .before .found .given .1)
+
+returns-2 : tie.Need-returns-2
+returns-2 c =
+    turn-none (passOf (c .before .before .before .before .before .before .args .s)) (c .before .before .before .look .ensures) (c .before .enum-told .given .1) (c .judged .ensures)
+
+pub next-turn-spec : {M : Type 1} → statement M
+next-turn-spec = tie.close (tie.spec look-requires enum-known-found enum-told judged-requires returns returns-2)
