@@ -1,7 +1,7 @@
 -- The tables of specs/Figures.antt and specs/RunFigures.antt, by computation. Assumes nothing.
 use Prim.Native.Nat.{ℕ}
 use Rattle.definition.specs.Figures.{Figures}
-use Rattle.definition.specs.RunFigures.{RunFigures, OpeningFigures, EditFigures, PollFigures, CutFigure}
+use Rattle.definition.specs.RunFigures.{RunFigures, OpeningFigures, EditFigures, ReportFigure, PollFigures, LimitFigures, CutFigure}
 use lib.Ieee.{round, neg, add, sub, mul, div, lt, eq, le, ofInt, isNan, ofBits, toBits}
 use Rattle.root.specs.Root.{rootOf}
 use Rattle.numeric.specs.Numeric.{finite, absOf, maxOf, clampOf, scaledOf, hypotOf}
@@ -130,3 +130,19 @@ edit-figures = record {
   faulty = tt;
   missing-there = tt;
 }
+
+pub limit-figures : LimitFigures
+unfolding computing
+limit-figures = record {
+  limit-not-met = tt;
+  limit-60 = tt;
+  limit-57 = tt;
+  limit-54 = tt;
+  limit-50 = tt;
+  limit-2 = tt;
+  limit-3 = tt;
+}
+
+pub report-figure : ReportFigure
+unfolding computing
+report-figure = record { every-number = tt; its-warnings = tt }

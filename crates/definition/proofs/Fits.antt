@@ -2,16 +2,16 @@
 use Prim.Native.Nat.{ℕ, zero, suc, _+_, _≤_}
 use mathlib.Core.Path.{_≡_, refl, ap, _∙_}
 use mathlib.Core.Bool.{Bool, true, false, cond}
-use mathlib.Core.List.{List, [], _∷_}
+use mathlib.Core.List.{List}
 use native.Mathlib.Omega.{arith}
 use lib.Ieee.{Float}
 use Rattle.numeric.specs.declared.Direction.{Direction}
 use Rattle.criteria.specs.Criteria.{materialOf}
 use Rattle.definition.specs.Constants.{leastRadius}
-use Rattle.definition.specs.Request.{Requested, Measured, Opening}
-use Rattle.definition.specs.Run.{Run, done, refuse, ask, bind, Reply}
+use Rattle.definition.specs.Request.{Requested, Measured}
+use Rattle.definition.specs.Run.{Run, done, refuse, ask, bind}
 use Rattle.definition.specs.Likelihood.{Rows, objective, evaluate, evaluationOf}
-use Rattle.definition.specs.Mesh.{Convergence, notConverged, Poll, Pass, Turn, evaluates, ended, Looked, moved, noneMoved, look, directions, onLook, ungained, begin, judged, turn, seen, stoppedAt, stopped, onTurn, poll, quarteredOf}
+use Rattle.definition.specs.Mesh.{notConverged, Poll, Pass, Turn, evaluates, ended, Looked, moved, noneMoved, look, directions, onLook, ungained, begin, judged, turn, seen, stoppedAt, stopped, onTurn, poll, quarteredOf}
 use Rattle.definition.specs.Fit.{Fit, Trial, accepted, exhausted, flatOf, trials, meshed, verified, verify, onTrial, evaluated, iterate, fitMap}
 use Rattle.definition.specs.Summary.{Finished}
 use Rattle.definition.specs.Whole.{checkedMeasured, checkedRequested, bandRows, baseline, concluded, banded, fitted, run, whole}

@@ -2,7 +2,7 @@
 use Prim.Native.Nat.{ℕ, zero, suc, _≤_}
 use mathlib.Core.Path.{_≡_, refl, ap, _∙_}
 use mathlib.Core.Bool.{Bool, true, false, cond}
-use mathlib.Core.List.{List, [], _∷_}
+use mathlib.Core.List.{List}
 use native.Mathlib.Omega.{arith}
 use lib.Dec.{eqb}
 use lib.Ieee.{Float, mul, isNan, lt, eq, le, ofBits}
@@ -11,9 +11,9 @@ use Rattle.numeric.specs.Numeric.{finite, maxOf}
 use Rattle.numeric.specs.declared.Direction.{Direction}
 use Rattle.criteria.specs.Criteria.{materialOf}
 use Rattle.definition.specs.Request.{Measured}
-use Rattle.definition.specs.Run.{Run, done, refuse, ask, bind, Reply, refused, entries, readingOf, answered, unless, require}
+use Rattle.definition.specs.Run.{Run, done, bind, Reply, refused, entries, readingOf, answered, unless, require}
 use Rattle.definition.specs.Likelihood.{objectiveOf, valued, objective}
-use Rattle.definition.specs.Mesh.{Poll, notConverged, Pass, Turn, evaluates, ended, Looked, moved, noneMoved, look, directions, fresh, ungained, begin, rest, judged, turn, seen, stoppedAt, stopped, onTurn, onLook, poll, passAt, quarteredOf}
+use Rattle.definition.specs.Mesh.{Poll, notConverged, Pass, Turn, evaluates, ended, Looked, moved, noneMoved, look, directions, ungained, begin, judged, turn, seen, stoppedAt, stopped, onTurn, onLook, poll, quarteredOf}
 use Rattle.definition.specs.Summary.{diagnosticsOf, reportOf}
 use Rattle.definition.specs.Laws.{Counted, PollCounted, FitEvaluations, radiusAfter, TenRadii}
 use Rattle.definition.specs.declared.Point.{Point}

@@ -3,7 +3,6 @@ use Prim.Native.Nat.{ℕ}
 use mathlib.Core.Path.{_≡_, refl}
 use mathlib.Core.Bool.{Bool, true, false, cond}
 use mathlib.Core.Option.{Option, none, some}
-use mathlib.Core.Logic.{_↔_}
 use native.Mathlib.Omega.{arith}
 use lib.Ieee.{Float}
 use Rattle.numeric.specs.Numeric.{finite}
@@ -15,7 +14,6 @@ use Rattle.definition.specs.Summary.{interval95, Approximation, availabl
 use Rattle.definition.specs.Laws.{IsAvailable, Exist, Presence}
 use Rattle.definition.specs.declared.Point.{Point}
 use Rattle.definition.specs.declared.TruingApproximationFailureCodeV1.{TruingApproximationFailureCodeV1}
-use Rattle.definition.specs.declared.TruingGaussianApproximationV1.{TruingGaussianApproximationV1}
 
 withheld : {A : Type 0} (code : TruingApproximationFailureCodeV1) → IsAvailable (unavailable code) → A
 withheld code h =

@@ -13,10 +13,10 @@ use Rattle.numeric.specs.Numeric.{finite}
 use Rattle.criteria.specs.Criteria.{mvMin, mvMax, bcMin, bcMax, materialOf}
 use Rattle.definition.specs.Lists.{firstAt}
 use Rattle.definition.specs.Laws.{AtMost, put, Count, CountWithoutDistances, CountOfEdit, EmptyList}
-use Rattle.definition.specs.Request.{Observation, Requested, Measured, Opening}
-use Rattle.definition.specs.Run.{Run, done, refuse, ask, bind, distances, new, Reply, refused, entries, Which, Reading, answered, read, unless, require}
+use Rattle.definition.specs.Request.{Observation, Requested, Measured}
+use Rattle.definition.specs.Run.{Run, done, refuse, ask, bind, distances, Reply, refused, entries, Which, Reading, answered, read, unless, require}
 use Rattle.definition.specs.Likelihood.{Rows, objectiveOf, valued, objective, bcMinus, bcPlus, mvMinus, mvPlus, truingJacobianRows, complete, evaluate, evaluationOf}
-use Rattle.definition.specs.Mesh.{Poll, Pass, Turn, evaluates, ended, turn, seen, onTurn, poll}
+use Rattle.definition.specs.Mesh.{Poll, Pass, Turn, evaluates, ended, turn, onTurn, poll}
 use Rattle.definition.specs.Fit.{Fit, Trial, accepted, exhausted, Step, unfit, to, stepOf, flatOf, onStep, trials, meshed, verified, verify, onTrial, evaluated, iterate, fitMap}
 use Rattle.definition.specs.Summary.{Finished}
 use Rattle.definition.specs.Whole.{withinOf, faultyObservation, soundPriorOf, faultyRequested, checkedPoint, checkedCount, checkedMeasured, checkedRequested, bandRows, baseline, concluded, banded, fitted, run, whole, unlessMissing, asked, Edit, putIn, takeOut, exchange, edit, soundRequestedOf}

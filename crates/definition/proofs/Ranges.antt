@@ -2,9 +2,9 @@
 use mathlib.Core.Path.{_≡_, refl, subst}
 use mathlib.Core.Bool.{Bool, true, false, cond, not}
 use mathlib.Core.Option.{Option, none, some}
-use mathlib.Core.Logic.{_⊎_, inl, inr}
-use lib.Ieee.{Float, nan, inf, fin, neg, lt, eq, le, isNan, ofBits}
-use Rattle.numeric.specs.Numeric.{zero64, one64, two64, finite, clampOf}
+use mathlib.Core.Logic.{_⊎_}
+use lib.Ieee.{Float, nan, inf, fin, neg, le, isNan, ofBits}
+use Rattle.numeric.specs.Numeric.{zero64, one64, two64, finite}
 use Rattle.numeric.specs.Laws.{clamp-between, clamp-range}
 use Rattle.matrix.specs.Matrix.{Inverted, inverse, nonFinite, rankDeficient, inverseOf}
 use Rattle.matrix.specs.declared.Symmetric2.{Symmetric2}
@@ -14,7 +14,6 @@ use Rattle.definition.specs.Likelihood.{evaluationOf}
 use Rattle.definition.specs.Summary.{interval95, Approximation, available, unavailable, covarianceOf, correlationOf, withIntervals, withInverse, buildApproximationOf, approximationOf, effectiveCountOf, effectiveCount, diagnosticsOf, reportOf}
 use Rattle.definition.specs.Laws.{Between, CorrelationRange, EffectiveCountRange}
 use Rattle.definition.specs.declared.Point.{Point}
-use Rattle.definition.specs.declared.TruingApproximationFailureCodeV1.the-variants as Failure
 
 finite-number : (x : Float) → finite x ≡ true → isNan x ≡ false
 unfolding finite isNan

@@ -6,7 +6,7 @@ use Prim.Native.Nat.{ℕ, zero, suc, _≤_}
 use mathlib.Core.Path.{_≡_}
 use mathlib.Core.Bool.{Bool, true, false}
 use mathlib.Core.List.{List, [], _∷_}
-use mathlib.Core.Option.{Option, none, some}
+use mathlib.Core.Option.{some}
 use mathlib.Core.Logic.{_⊎_, _↔_}
 use lib.Dec.{eqb}
 use lib.Ieee.{Float, nan, neg, le}
@@ -16,15 +16,13 @@ use Rattle.matrix.specs.declared.Symmetric2.{Symmetric2}
 use Rattle.interval.specs.declared.GaussianIntervalV1.{GaussianIntervalV1}
 use Rattle.criteria.specs.Criteria.{atBoundOf}
 use Rattle.definition.specs.Constants.{firstRadius, leastRadius}
-use Rattle.definition.specs.Request.{Requested, Measured, Opening}
+use Rattle.definition.specs.Request.{Measured, Opening}
 use Rattle.definition.specs.Run.{Run, done, refuse, ask, Reply}
-use Rattle.definition.specs.Likelihood.{Rows}
 use Rattle.definition.specs.Mesh.{Convergence, notConverged, scaledGradient, objectiveMesh, Poll, poll, firstPass, quarteredOf}
-use Rattle.definition.specs.Fit.{Fit, found, polled, meshed}
-use Rattle.definition.specs.Summary.{interval95, Approximation, available, covarianceOf, correlationOf, approximationOf, Diagnostics, warningsOf, Report, Finished, reportOf}
+use Rattle.definition.specs.Fit.{found, polled}
+use Rattle.definition.specs.Summary.{interval95, Approximation, available, covarianceOf, correlationOf, approximationOf, Finished, reportOf}
 use Rattle.definition.specs.Whole.{noRows, bandRows, whole, Edit, edit}
 use Rattle.definition.specs.declared.Point.{Point}
-use Rattle.definition.specs.declared.Evaluation.{Evaluation}
 use Rattle.definition.specs.declared.TruingGaussianApproximationV1.{TruingGaussianApproximationV1}
 use Rattle.definition.specs.declared.TruingUncertaintyWarningCodeV1.the-variants as Warning
 use Rattle.definition.specs.declared.TruingUncertaintyWarningCodeV1.{TruingUncertaintyWarningCodeV1}

@@ -1,7 +1,7 @@
 -- Whole runs, told by how many questions they put and what they end in: document 01's, and more that tell the definition from near misses of it. The tables
--- `RunFigures`, `OpeningFigures`, `EditFigures`, `PollFigures` and `CutFigure` have one proof each, by computation, in proofs/Figures.antt.
-use Prim.Native.Nat.{ℕ, zero, suc, _^_, _+_, _-_, _*_}
-use mathlib.Core.Bool.{Bool, true, false, cond, not, _&&_, _||_, Bool·beq}
+-- `RunFigures`, `OpeningFigures`, `EditFigures`, `ReportFigure`, `PollFigures`, `LimitFigures` and `CutFigure` have one proof each, by computation, in proofs/Figures.antt.
+use Prim.Native.Nat.{ℕ, zero, suc, _^_, _-_, _*_}
+use mathlib.Core.Bool.{Bool, true, false, cond, _&&_, _||_, Bool·beq}
 use mathlib.Core.List.{List, [], _∷_}
 use mathlib.Core.Option.{Option, none, some}
 use lib.Dec.{T, eqb}
@@ -10,10 +10,13 @@ use Rattle.numeric.specs.Numeric.{zero64, maxOf}
 use Rattle.definition.specs.Constants.{_⊕_, _⊖_, _⊗_}
 use Rattle.definition.specs.Request.{Observation, Requested, Measured, Opening}
 use Rattle.definition.specs.Run.{Run, done, refuse, ask, bind, Entry, missing, drop, Reply, refused, entries, Which, shots, distances, new}
-use Rattle.definition.specs.Summary.{Approximation, available, unavailable, Baseline, Report, Finished, reportOf}
+use Rattle.definition.specs.Mesh.{Poll, poll, firstPass}
+use Rattle.definition.specs.Summary.{converged, Approximation, available, unavailable, Band, Baseline, Report, reportOf}
 use Rattle.definition.specs.Whole.{whole, Edit, putIn, takeOut, exchange, edit}
 use Rattle.definition.specs.Laws.{indexOf}
+use Rattle.interval.specs.declared.GaussianIntervalV1.{GaussianIntervalV1}
 use Rattle.definition.specs.declared.Point.{Point}
+use Rattle.definition.specs.declared.WeightedTruingObservationResultV1.{WeightedTruingObservationResultV1}
 use Rattle.definition.specs.declared.TruingPriorsV1.{TruingPriorsV1}
 use Rattle.definition.specs.declared.Prior.{Prior}
 use Rattle.definition.specs.declared.Prior.the-variants.{Absent}
@@ -21,7 +24,7 @@ use Rattle.definition.specs.declared.TruingApproximationFailureCodeV1.{T
 use Rattle.definition.specs.declared.TruingApproximationFailureCodeV1.the-variants as Failure
 use Rattle.definition.specs.declared.TruingUncertaintyWarningCodeV1.{TruingUncertaintyWarningCodeV1}
 use Rattle.definition.specs.declared.TruingUncertaintyWarningCodeV1.the-variants as Warning
-use Rattle.definition.specs.Figures.{ratio, number, minusZero, point, observed, normal, priors, measured, requested, firstTwo, twoZeros, _is_, samePoint, sameOption, sameList}
+use Rattle.definition.specs.Figures.{ratio, number, minusZero, symmetric, point, observed, normal, priors, measured, requested, firstTwo, twoZeros, _is_, samePoint, sameOption, sameList}
 
 -- an opening without priors
 abbrev pub opening : Float → Float → List Observation → List Requested → Opening
@@ -50,14 +53,14 @@ pub data Told (B : Type 0) : Type 0 where
   reported : ℕ → B → Told B
   declined : ℕ → ℕ → ℕ → Told B
 
-module _ {B : Type 0} (view : Report → B) (host : Script) where
-  abbrev pub tellFrom : ℕ → Run Finished → Told B
-  tellFrom n (done c) = reported n (view (reportOf c))
+module _ {A B : Type 0} (view : A → B) (host : Script) where
+  abbrev pub tellFrom : ℕ → Run A → Told B
+  tellFrom n (done c) = reported n (view c)
   tellFrom n (refuse c i) = declined n c i
   tellFrom n (ask p w k) = tellFrom (suc n) (k (host n p w))
 
-  abbrev pub tell : Opening → Told B
-  tell o = tellFrom 0 (whole o)
+abbrev pub tell : {B : Type 0} → (Report → B) → Script → Opening → Told B
+tell view host o = tellFrom (λ c. view (reportOf c)) host 0 (whole o)
 
 module _ {B : Type 0} (same : B → B → Bool) where
   abbrev pub sameTold : Told B → Told B → Bool
@@ -339,7 +342,7 @@ pub record OpeningFigures : Type 0 where
 -- ---- edits of the finished run with the requested distance 100
 
 abbrev pub edits : Script → Edit → Told Brief → Bool
-edits host e expected = sameTold sameBrief (tellFrom brief host 0 (bind (whole (entered allThree (requested 100 ∷ []))) (λ c. edit c e))) expected
+edits host e expected = sameTold sameBrief (tellFrom (λ c. brief (reportOf c)) host 0 (bind (whole (entered allThree (requested 100 ∷ []))) (λ c. edit c e))) expected
 
 abbrev pub newMissing : Which → Point → List Entry
 newMissing shots p = threeAt shots p
@@ -354,6 +357,132 @@ pub record EditFigures : Type 0 where
   -- a faulty entry, and a gap, at its place in the edited list
   pub faulty : T (edits threeOf (putIn 2 (requested 0)) (declined 17 7 2))
   pub missing-there : T (edits (λ n p w. entries (newMissing w p)) (putIn 2 (requested 99)) (declined 22 13 2))
+
+-- ---- every number of one report
+
+abbrev pub withInterval : Option GaussianIntervalV1 → List (Option Float) → List (Option Float)
+withInterval none rest = none ∷ rest
+withInterval (some g) rest = some (g .estimate) ∷ some (g .«standard_deviation») ∷ some (g .lower) ∷ some (g .upper) ∷ some (g .probability) ∷ rest
+
+abbrev pub withResults : List WeightedTruingObservationResultV1 → List (Option Float) → List (Option Float)
+withResults [] rest = rest
+withResults (o ∷ os) rest = some (o .«predicted_drop») ∷ some (o .residual) ∷ some (o .«standardized_residual») ∷ withResults os rest
+
+abbrev pub withGaussian : Approximation → List (Option Float) → List (Option Float)
+withGaussian (unavailable code) rest = none ∷ rest
+withGaussian (available g q) rest =
+    let c = g .covariance in
+    some (c .«mv_variance_fps2») ∷ some (c .«mv_bc_covariance_fps») ∷ some (c .«bc_variance»)
+    ∷ withInterval (some (g .«muzzle_velocity_interval_95»)) (withInterval (some (g .«ballistic_coefficient_interval_95»))
+    (some (g .«mv_bc_correlation») ∷ some (g .«scaled_information_condition_number») ∷ rest))
+
+abbrev pub withBands : List Band → List (Option Float) → List (Option Float)
+withBands [] rest = rest
+withBands (b ∷ bs) rest = some (b .range) ∷ some (b .predictedDrop) ∷ withInterval (b .latent) (withInterval (b .future) (withBands bs rest))
+
+abbrev pub numbersOf : Report → List (Option Float)
+numbersOf r =
+    let d = r .diagnostics in
+    some (r .point .mv) ∷ some (r .point .bc)
+    ∷ withResults (r .observations)
+    (some (d .chiSquare) ∷ some (d .priorPenalty) ∷ some (d .penalizedChiSquare)
+    ∷ d .effectiveParameterCount ∷ d .effectiveDegreesOfFreedom ∷ d .reduced
+    ∷ some (d .bcSensitivityRatio) ∷ some (d .dataConditionNumber) ∷ some (d .gradientNorm)
+    ∷ withGaussian (r .approximation) (withBands (r .bands) (chiOf (r .baseline) ∷ [])))
+
+-- three observations, two priors, two requested distances; the drops are linear in the point
+abbrev pub linearAt : Which → Float → Float → List Entry
+linearAt shots u v = drop u ∷ drop (v ⊕ ratio 1 4 ⊗ u) ∷ drop v ∷ []
+linearAt distances u v = drop u ∷ drop (v ⊕ ratio 1 4 ⊗ u) ∷ []
+linearAt (new d) u v = drop u ∷ []
+
+abbrev pub linearThree : Script
+linearThree n p w = entries (linearAt w ((p .mv ⊖ number 2000) ⊗ ratio 1 128) ((p .bc ⊖ ratio 1 2) ⊗ number 8))
+
+abbrev pub withPriors : Opening
+withPriors = record {
+  measured = measured (number 2000) (ratio 1 2)
+      (observed 100 (number 4) (ratio 1 8) ∷ observed 200 (number 2) (ratio 1 8) ∷ observed 300 (number 2) (ratio 1 4) ∷ [])
+      (priors (normal (number 2450) (number 2)) (normal (ratio 7 10) (ratio 1 16)));
+  requested = record { range = number 150; sigma = some (ratio 1 2) } ∷ record { range = number 350; sigma = none } ∷ [];
+}
+
+-- worked out apart from this definition, from the formulas of the source
+abbrev pub expectedNumbers : List (Option Float)
+expectedNumbers =
+    -- fit
+    some (ofBits binary64 0x40a3_25b8_5285_1d63)
+    ∷ some (ofBits binary64 0x3fe5_3d78_70ab_a3f0)
+    -- residuals
+    ∷ some (ofBits binary64 0x400c_2dc2_9428_eb18)
+    ∷ some (ofBits binary64 0xbfde_91eb_5eb8_a740)
+    ∷ some (ofBits binary64 0xc00e_91eb_5eb8_a740)
+    ∷ some (ofBits binary64 0x4001_8661_8661_82a6)
+    ∷ some (ofBits binary64 0x3fc8_6618_6618_2a60)
+    ∷ some (ofBits binary64 0x3ff8_6618_6618_2a60)
+    ∷ some (ofBits binary64 0x3ff4_f5e1_c2ae_8fc0)
+    ∷ some (ofBits binary64 0xbfe6_143c_7aa2_e080)
+    ∷ some (ofBits binary64 0xc006_143c_7aa2_e080)
+    -- chi-square, penalty, both
+    ∷ some (ofBits binary64 0x4038_8b56_9fa1_eb2c)
+    ∷ some (ofBits binary64 0x3fe0_adf0_b3e3_6b96)
+    ∷ some (ofBits binary64 0x4039_10c6_2541_0689)
+    -- effective count, degrees of freedom, reduced
+    ∷ some (ofBits binary64 0x3fee_f97e_f97e_f939)
+    ∷ some (ofBits binary64 0x4000_41a0_41a0_41b2)
+    ∷ some (ofBits binary64 0x4028_2841_2169_629a)
+    -- sensitivity ratio, data condition, gradient
+    ∷ some (ofBits binary64 0x3fd3_4051_e93e_32d6)
+    ∷ some (ofBits binary64 0x3ff8_dd65_3006_6495)
+    ∷ some (ofBits binary64 0x3e38_9050_0000_0000)
+    -- covariance
+    ∷ some (ofBits binary64 0x400f_801f_801f_8028)
+    ∷ some (ofBits binary64 0xbf48_0018_0018_011c)
+    ∷ some (ofBits binary64 0x3f28_6618_6618_69ec)
+    -- intervals
+    ∷ some (ofBits binary64 0x40a3_25b8_5285_1d63)
+    ∷ some (ofBits binary64 0x3fff_bfcf_5ea8_1cb3)
+    ∷ some (ofBits binary64 0x40a3_1df1_0ba4_4312)
+    ∷ some (ofBits binary64 0x40a3_2d7f_9965_f7b4)
+    ∷ some (ofBits binary64 0x3fee_6666_6666_6666)
+    ∷ some (ofBits binary64 0x3fe5_3d78_70ab_a3f0)
+    ∷ some (ofBits binary64 0x3f8b_f12e_97b8_76c6)
+    ∷ some (ofBits binary64 0x3fe4_6268_8612_79d1)
+    ∷ some (ofBits binary64 0x3fe6_1888_5b44_ce0f)
+    ∷ some (ofBits binary64 0x3fee_6666_6666_6666)
+    -- correlation, condition
+    ∷ some (ofBits binary64 0xbf9b_b3f0_01ae_db78)
+    ∷ some (ofBits binary64 0x4047_a7d2_cc39_4c41)
+    -- band
+    ∷ some (ofBits binary64 0x4062_c000_0000_0000)
+    ∷ some (ofBits binary64 0x400c_2dc2_9428_eb18)
+    ∷ some (ofBits binary64 0x400c_2dc2_9428_eb18)
+    ∷ some (ofBits binary64 0x3f8f_bfcf_5ea8_1ba4)
+    ∷ some (ofBits binary64 0x400b_ef88_5d22_188f)
+    ∷ some (ofBits binary64 0x400c_6bfc_cb2f_bda1)
+    ∷ some (ofBits binary64 0x3fee_6666_6666_6666)
+    ∷ some (ofBits binary64 0x400c_2dc2_9428_eb18)
+    ∷ some (ofBits binary64 0x3fe0_01f7_e2f9_9428)
+    ∷ some (ofBits binary64 0x4004_55ca_e14c_d8e8)
+    ∷ some (ofBits binary64 0x4012_02dd_2382_7ea4)
+    ∷ some (ofBits binary64 0x3fee_6666_6666_6666)
+    -- band
+    ∷ some (ofBits binary64 0x4075_e000_0000_0000)
+    ∷ some (ofBits binary64 0x4001_8661_8661_82a6)
+    ∷ some (ofBits binary64 0x4001_8661_8661_82a6)
+    ∷ some (ofBits binary64 0x3fbb_eed1_ce12_a7db)
+    ∷ some (ofBits binary64 0x3fff_a0cd_7829_74c9)
+    ∷ some (ofBits binary64 0x4003_3c5c_50ae_4ae7)
+    ∷ some (ofBits binary64 0x3fee_6666_6666_6666)
+    ∷ none
+    -- baseline
+    ∷ some (ofBits binary64 0x4095_0000_0000_0000)
+    ∷ []
+
+pub record ReportFigure : Type 0 where
+  pub every-number : T (sameTold (sameList (sameOption _is_)) (tell numbersOf linearThree withPriors) (reported 29 expectedNumbers))
+  pub its-warnings :
+      T (sameTold (sameList sameWarning) (tell (λ r. r .warnings) linearThree withPriors) (reported 29 (Warning.MvPriorDominated ∷ Warning.PredictionOutsideObservedDomain ∷ [])))
 
 -- runs that end in a poll
 pub record PollFigures : Type 0 where
@@ -371,6 +500,41 @@ pub record PollFigures : Type 0 where
   pub unfit-counts :
       T (runs unfitAtFirst (zeros (number 2000) (ratio 3 10))
       (reported 130 (polledAt nominal true 80 (some Failure.RankDeficientInformation) (Warning.ObjectiveMeshConvergence ∷ weakIllUnavailable))))
+
+-- ---- the poll with another limit of evaluations, from 1000, 1.5: six are evaluated in a pass
+
+pub record PollBrief : Type 0 where
+  pub best : Point
+  pub verified : Bool
+  pub evaluations : ℕ
+
+abbrev pub pollBrief : Poll → PollBrief
+pollBrief r = record { best = r .point; verified = converged (r .convergence); evaluations = r .evaluations }
+
+abbrev pub samePoll : PollBrief → PollBrief → Bool
+samePoll a b = samePoint (a .best) (b .best) && (Bool·beq (a .verified) (b .verified) && eqb (a .evaluations) (b .evaluations))
+
+-- with the knee's place, the objective at the centre and the limit
+abbrev pub limited : Float → Float → ℕ → Told PollBrief → Bool
+limited k current limit expected =
+    let centre = point (number 1000) (ratio 3 2) in
+    sameTold samePoll
+    (tellFrom pollBrief (knee k) 0 (poll (zeros (number 1000) (ratio 3 2) .measured) limit (firstPass (symmetric zero64 zero64 zero64) centre current)))
+    expected
+
+abbrev pub ended : Float → Bool → ℕ → Told PollBrief
+ended bc verified n = reported n (record { best = point (number 1000) bc; verified = verified; evaluations = n })
+
+pub record LimitFigures : Type 0 where
+  -- without a gain: uncut; cut in the last pass, and at its end; at the end of the pass before; in that pass
+  pub limit-not-met : T (limited (number 2) (number 200) 1024 (ended (ratio 3 2) true 60))
+  pub limit-60 : T (limited (number 2) (number 200) 60 (ended (ratio 3 2) true 60))
+  pub limit-57 : T (limited (number 2) (number 200) 57 (ended (ratio 3 2) true 57))
+  pub limit-54 : T (limited (number 2) (number 200) 54 (ended (ratio 3 2) false 54))
+  pub limit-50 : T (limited (number 2) (number 200) 50 (ended (ratio 3 2) false 50))
+  -- with a gain at the third: the gain is kept
+  pub limit-2 : T (limited (number 1) (ratio 441 2) 2 (ended (ratio 3 2) false 2))
+  pub limit-3 : T (limited (number 1) (ratio 441 2) 3 (ended (ratio 1499 1000) false 3))
 
 -- the poll's last pass is cut by the limit of evaluations, and at the last radius still counts as converged
 pub record CutFigure : Type 0 where

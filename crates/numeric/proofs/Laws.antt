@@ -11,6 +11,7 @@ use lib.Pow.{pow-pos}
 use lib.Ieee.{Float, nan, inf, fin, binary64, up, down, round, sub, neg, lt, eq, ne, isNan, fits, ofBits}
 use lib.Ieee.Fits.{up-pos, down-pos}
 use lib.Ieee.Scale.{round-same}
+use Rattle.numeric.specs.Laws.{not-below-itself}
 use Rattle.numeric.specs.Numeric.{zero64, finite, absOf, maxOf, clampOf, hypotOf, scaledOf}
 
 never : _≡_ false true → ⊥
@@ -123,15 +124,6 @@ unfolding maxOf isNan
 max-with-nan nan = refl
 max-with-nan (inf s) = refl
 max-with-nan (fin s m e) = refl
-
--- nothing is below itself
-pub not-below-itself : (x : Float) → lt x x ≡ false
-unfolding lt
-not-below-itself nan = refl
-not-below-itself (inf true) = refl
-not-below-itself (inf false) = refl
-not-below-itself (fin true m e) = let a = m * up e * down e in le-ltb a a (omega arith)
-not-below-itself (fin false m e) = let a = m * up e * down e in le-ltb a a (omega arith)
 
 -- clamp keeps a not-a-number, and whatever compares neither below the lower nor above the upper end
 pub clamp-of-nan : (lower upper : Float) → clampOf nan lower upper ≡ nan

@@ -1,11 +1,11 @@
 -- Laws of clamp that other crates cite. Assumes nothing.
-use Prim.Native.Nat.{ℕ, _+_, _*_, _≤_, _<_}
+use Prim.Native.Nat.{ℕ, _+_, _*_, _≤_}
 use mathlib.Core.Path.{_≡_, refl}
 use mathlib.Core.Bool.{Bool, true, false, cond, _||_}
 use mathlib.Core.Logic.{_⊎_, inl, inr}
 use native.Mathlib.Omega.{arith}
-use borrow.Author.Tests.{ltb-true, ltb-false, lt-ltb, le-ltb, eq-eqb}
-use lib.Dec.{ltb, eqb}
+use borrow.Author.Tests.{ltb-false, le-ltb, eq-eqb}
+use lib.Dec.{ltb}
 use lib.Ieee.{Float, nan, inf, fin, up, down, below, level, lt, eq, le, isNan}
 use Rattle.numeric.specs.Numeric.{clampOf}
 
@@ -67,13 +67,14 @@ compared-right (fin s m e) nan h = cc
 compared-right x (inf t) h = refl
 compared-right x (fin t n d) h = refl
 
-nothing-below : (x : Float) → lt x x ≡ false
+-- nothing is below itself
+pub not-below-itself : (x : Float) → lt x x ≡ false
 unfolding lt
-nothing-below nan = refl
-nothing-below (inf true) = refl
-nothing-below (inf false) = refl
-nothing-below (fin true m e) = let a = m * up e * down e in le-ltb a a (omega arith)
-nothing-below (fin false m e) = let a = m * up e * down e in le-ltb a a (omega arith)
+not-below-itself nan = refl
+not-below-itself (inf true) = refl
+not-below-itself (inf false) = refl
+not-below-itself (fin true m e) = let a = m * up e * down e in le-ltb a a (omega arith)
+not-below-itself (fin false m e) = let a = m * up e * down e in le-ltb a a (omega arith)
 
 -- clamp takes whatever is no not-a-number into the range from the lower to the upper end
 pub clamp-between : (x lower upper : Float) → isNan x ≡ false → le lower upper ≡ true
@@ -89,8 +90,8 @@ clamp-between x lower upper p w = go (lt x lower) (lt upper x) refl refl
 
     go : (r q : Bool) → lt x lower ≡ r → lt upper x ≡ q
         → (le lower (cond r lower (cond q upper x)) ≡ true) × (le (cond r lower (cond q upper x)) upper ≡ true)
-    go true q h k = (at-least lower lower l l (nothing-below lower), w)
-    go false true h k = (w, at-least upper upper u u (nothing-below upper))
+    go true q h k = (at-least lower lower l l (not-below-itself lower), w)
+    go false true h k = (w, at-least upper upper u u (not-below-itself upper))
     go false false h k = (at-least x lower p l h, at-least upper x u p k)
 
 -- what clamp gives is a not-a-number or in the range
