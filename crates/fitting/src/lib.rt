@@ -152,7 +152,7 @@ fn next_look(g: Progress) -> Moved
 
 // What a fit holds before its first objective is there.
 pub fn blank(entered: Point) -> Progress
-    ensures { λ r. ⌜ r .point ≡ entered ⌝ }
+    ensures { λ r. ⌜ (r .point ≡ entered) × (r .left ≡ 100) ⌝ }
 {
     let none = Symmetric2 {
         a00: 0.0,

@@ -37,7 +37,7 @@ fn shorter(a: usize, b: usize) -> usize
     b
 }
 
-fn shortest(a: usize, b: usize, c: usize) -> usize
+pub fn shortest(a: usize, b: usize, c: usize) -> usize
     ensures { λ r. ⌜ r ≡ shortestOf a b c ⌝ }
 {
     shorter(a, shorter(b, c))

@@ -18,7 +18,7 @@ next-iteration-requires c κs = search needs
 
 returns : tie.Need-returns
 returns c = record {
-  leads = λ m ds. c .next-iteration .ensures (omega arith) .leads m ds ∙ ap (λ (p : Point). bind (iterate m 100 p (c .before .before .before .before .before .args .value) firstDamping 0) (fitted m ds)) (c .before .before .before .before .blank .ensures);
+  leads = λ m ds. c .next-iteration .ensures (omega arith) .leads m ds ∙ ap (λ (p : Point). bind (iterate m 100 p (c .before .before .before .before .before .args .value) firstDamping 0) (fitted m ds)) (c .before .before .before .before .blank .ensures .0);
   within = c .next-iteration .ensures (omega arith) .within;
 }
 

@@ -1,0 +1,5 @@
+pub mod Laws
+pub mod Rows
+pub mod Steps
+pub mod OpenLaws
+pub mod CallLaws
