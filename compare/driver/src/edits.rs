@@ -86,15 +86,12 @@ pub fn play(case: &Case, line: &mut u64) -> (Script, Vec<String>, u64) {
 
 impl Host for Bookkeeper<'_> {
     fn line(&mut self) -> Option<Vec<u8>> {
-        let mut line = self.next_line()?;
-        self.script.lines.push(line.clone());
-        self.script.answers.push(None);
-        line.push(b'\n');
-        Some(line)
+        let line = self.next_line()?;
+        Some(self.script.put(line))
     }
 
     fn answer(&mut self, text: &str) {
-        *self.script.answers.last_mut().expect("a line came before") = Some(text.to_string());
+        self.script.answered(text);
         if self.closed {
             return;
         }

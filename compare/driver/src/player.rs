@@ -18,6 +18,22 @@ pub struct Script {
     pub closing: usize,
 }
 
+impl Script {
+    /// Notes a line and gives it back as the desk reads it.
+    pub fn put(&mut self, mut line: Vec<u8>) -> Vec<u8> {
+        self.lines.push(line.clone());
+        self.answers.push(None);
+        line.push(b'\n');
+        line
+    }
+
+    pub fn answered(&mut self, text: &str) {
+        let slot = self.answers.last_mut().expect("a line came before");
+        assert!(slot.is_none(), "two answers to one line");
+        *slot = Some(text.to_string());
+    }
+}
+
 struct Question {
     list: String,
     mv: f64,
@@ -88,17 +104,12 @@ pub fn recite(lines: &[Vec<u8>], edits: bool, line: &mut u64) -> Vec<Option<Stri
 
 impl Host for Player {
     fn line(&mut self) -> Option<Vec<u8>> {
-        let mut line = self.next_line()?;
-        self.script.lines.push(line.clone());
-        self.script.answers.push(None);
-        line.push(b'\n');
-        Some(line)
+        let line = self.next_line()?;
+        Some(self.script.put(line))
     }
 
     fn answer(&mut self, text: &str) {
-        let slot = self.script.answers.last_mut().expect("a line came before");
-        assert!(slot.is_none(), "two answers to one line");
-        *slot = Some(text.to_string());
+        self.script.answered(text);
         let words: Vec<&str> = text.trim_matches(|c| c == '(' || c == ')').split(' ').collect();
         match words[0] {
             "question" => {
