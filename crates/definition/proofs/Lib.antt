@@ -3,6 +3,6 @@ mod Figures
 pub mod Polls
 mod Fits
 mod Presence
-mod Questions
+pub mod Questions
 mod Ranges
 mod Warnings

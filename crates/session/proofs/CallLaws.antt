@@ -27,7 +27,7 @@ use Rattle.fitting.specs.Meaning.{fitOf, afterRows, afterTrial, afterLook, rest
 use Rattle.fitting.proofs.Laws.{bind-assoc}
 use Rattle.fitting.specs.declared.Stage.{Stage}
 use Rattle.fitting.specs.declared.Wait.the-variants as Wait
-use Rattle.session.specs.Meaning.{measuredOf, wantedOf, predictedOf, rowsAt, rowsNext, bandRowsOf, stencilNext, pointAt, afterBands, fiveAt, fiveBandsAt, baselineOf, finishedOf, finishedWith, State, asking, standing, over as ended, after, stateAt, withinOf, state, refusedAt, reportedAt, Stands, Declines, wants, either, rightLength, entriesTaken, refusalTaken, Replied, PointRefused, sumOf, valuedFrom, valueSays}
+use Rattle.session.specs.Meaning.{measuredOf, wantedOf, predictedOf, rowsAt, rowsNext, bandRowsOf, stencilNext, pointAt, afterBands, fiveAt, fiveBandsAt, baselineOf, finishedOf, finishedWith, State, asking, standing, over as ended, after, stateAt, withinOf, state, refusedAt, reportedAt, Sizes, sizesOf, Stands, Declines, wants, either, rightLength, entriesTaken, refusalTaken, Replied, PointRefused, sumOf, valuedFrom, valueSays}
 use Rattle.session.specs.declared.Body.{Body}
 use Rattle.session.specs.declared.Phase.{Phase}
 use Rattle.session.specs.declared.Phase.the-variants.{Over, Start, Evaluation, Trial, Look, Bands, Ended}
@@ -151,7 +151,7 @@ module _ (s : Session) (a : Answer) where
   pub point-standing : (c : Finished) → state s ≡ standing c → Declines a s 8 → PointRefused s a
   point-standing c e d = record { is = subst (λ (x : State). refusalTaken x s a) (sym e) d }
 
-  point-taken : (p : Point) (w : Which) (k : Reply → Run Finished) → state s ≡ asking none (ask p w k) → Stands a none (s .asked) (k refused) → PointRefused s a
+  point-taken : (p : Point) (w : Which) (k : Reply → Run Finished) → state s ≡ asking none (ask p w k) → Stands a (sizesOf (s .body)) none (s .asked) (k refused) → PointRefused s a
   point-taken p w k e d = record { is = subst (λ (x : State). refusalTaken x s a) (sym e) d }
 
   pub point-beyond : withinOf (s .body) ≡ false → Declines a s 8 → PointRefused s a
@@ -167,13 +167,14 @@ module _ (s : Session) (a : Answer) where
     pub point-used : (c : Point) → s .phase ≡ Look c → 1024 ≤ s .body .progress .pass .evaluations → Declines a s 8 → PointRefused s a
     point-used c e l d = point-closed (state-used s c h e l) d
 
-    pub point-baseline : (b : Body) → s .phase ≡ Phase.Baseline → T (withinOf b) → finishedOf b ≡ finishedWith (s .body) none → a ≡ reportedAt b (s .asked) → PointRefused s a
+    pub point-baseline : (b : Body) → s .phase ≡ Phase.Baseline → T (withinOf b) → finishedOf b ≡ finishedWith (s .body) none → sizesOf b ≡ sizesOf (s .body) → a ≡ reportedAt b (s .asked) → PointRefused s a
     unfolding summary.baselineOf
-    point-baseline b e w same r =
-        point-taken (s .body .entered) shots _ (at-baseline s h e) (stands-as r (stands-same (reported-stands b (s .asked) w) (ap done same)))
+    point-baseline b e w same z r =
+        point-taken (s .body .entered) shots _ (at-baseline s h e)
+        (subst (λ (x : Sizes). Stands a x none (s .asked) (done (finishedWith (s .body) none))) z (stands-as r (stands-same (reported-stands b (s .asked) w) (ap done same))))
 
     module _ (r : a ≡ refusedAt (s .body) (s .asked) 10 0) where
-      stops : Stands a none (s .asked) (refuse 10 0)
+      stops : Stands a (sizesOf (s .body)) none (s .asked) (refuse 10 0)
       stops = stands-as r (refused-stands (s .body) (s .asked) 10 0)
 
       point-objective : (q : Point) (f : Float → Run Finished) → state s ≡ after none (bind (likelihood.objective (measuredOf (s .body)) q) f) → PointRefused s a
@@ -203,20 +204,20 @@ module _ (s : Session) (ds : List Float) (ms : List Bool) (a : Answer) where
   stood : (c : Finished) → state s ≡ standing c → Declines a s 8 → Replied s ds ms a
   stood c e d = record { is = subst (λ (x : State). entriesTaken x s ds ms a) (sym e) d }
 
-  taken : (p : Point) (w : Which) (k : Reply → Run Finished) → state s ≡ asking none (ask p w k) → T (rightLength (wants s w) ds ms)
-      → Stands a none (s .asked) (k (entries (entriesOf ds ms))) → Replied s ds ms a
+  taken : (p : Point) (w : Which) (k : Reply → Run Finished) → state s ≡ asking none (ask p w k) → T (rightLength (wants (sizesOf (s .body)) w) ds ms)
+      → Stands a (sizesOf (s .body)) none (s .asked) (k (entries (entriesOf ds ms))) → Replied s ds ms a
   taken p w k e l d = record {
     is =
         subst (λ (x : State). entriesTaken x s ds ms a) (sym e)
-        (subst (λ (t : Bool). either t (Stands a none (s .asked) (k (entries (entriesOf ds ms)))) (Declines a s 9)) (sym (T-true (rightLength (wants s w) ds ms) l)) d);
+        (subst (λ (t : Bool). either t (Stands a (sizesOf (s .body)) none (s .asked) (k (entries (entriesOf ds ms)))) (Declines a s 9)) (sym (T-true (rightLength (wants (sizesOf (s .body)) w) ds ms) l)) d);
   }
 
-  wrong-length : (p : Point) (w : Which) (k : Reply → Run Finished) → state s ≡ asking none (ask p w k) → rightLength (wants s w) ds ms ≡ false
+  wrong-length : (p : Point) (w : Which) (k : Reply → Run Finished) → state s ≡ asking none (ask p w k) → rightLength (wants (sizesOf (s .body)) w) ds ms ≡ false
       → Declines a s 9 → Replied s ds ms a
   wrong-length p w k e l d = record {
     is =
         subst (λ (x : State). entriesTaken x s ds ms a) (sym e)
-        (subst (λ (t : Bool). either t (Stands a none (s .asked) (k (entries (entriesOf ds ms)))) (Declines a s 9)) (sym l) d);
+        (subst (λ (t : Bool). either t (Stands a (sizesOf (s .body)) none (s .asked) (k (entries (entriesOf ds ms)))) (Declines a s 9)) (sym l) d);
   }
 
   pub replied-beyond : withinOf (s .body) ≡ false → Declines a s 8 → Replied s ds ms a
@@ -264,31 +265,31 @@ module _ (s : Session) (ds : List Float) (ms : List Bool) (a : Answer) where
         value-is = is ∙ sym (measured-value (s .body) q ds ms (right-lengths (s .body .shots .n) ds ms l .0))
 
         replied-objective : (f : Float → Run Finished) → state s ≡ after none (bind (likelihood.objective (measuredOf (s .body)) q) f)
-            → Stands a none (s .asked) (bind (valueSays v) f) → Replied s ds ms a
+            → Stands a (sizesOf (s .body)) none (s .asked) (bind (valueSays v) f) → Replied s ds ms a
         replied-objective f e d =
             taken q shots _ (e ∙ ap (after none) (objective-asks (measuredOf (s .body)) q f)) l (stands-same d (ap (λ (t : Run Float). bind t f) value-is))
 
-        pub replied-trial : s .phase ≡ Trial q → Stands a none (s .asked) (bind (valueSays v) (afterTrial (measuredOf (s .body)) (wantedOf (s .body)) (s .body .progress) q)) → Replied s ds ms a
+        pub replied-trial : s .phase ≡ Trial q → Stands a (sizesOf (s .body)) none (s .asked) (bind (valueSays v) (afterTrial (measuredOf (s .body)) (wantedOf (s .body)) (s .body .progress) q)) → Replied s ds ms a
         replied-trial e d = replied-objective _ (at-trial s h q e) d
 
         pub replied-look : s .phase ≡ Look q → s .body .progress .pass .evaluations < 1024
-            → Stands a none (s .asked) (bind (valueSays v) (afterLook (measuredOf (s .body)) (wantedOf (s .body)) (s .body .progress) q)) → Replied s ds ms a
+            → Stands a (sizesOf (s .body)) none (s .asked) (bind (valueSays v) (afterLook (measuredOf (s .body)) (wantedOf (s .body)) (s .body .progress) q)) → Replied s ds ms a
         replied-look e k d = replied-objective _ (at-look s h q e k) d
 
       pub replied-start : (v : Value)
           → valueSays v ≡ valuedFrom (readingOf (entriesOf ds ms) .gap) (sumOf (s .body .shots .ranges) (s .body .shots .drops) (s .body .shots .sigmas) (s .body .priors) (s .body .entered) (readingOf (entriesOf ds ms) .drops))
           → s .phase ≡ Start
-          → Stands a none (s .asked) (bind (valueSays v) (λ x. startAt (s .body .entered) x (measuredOf (s .body)) (wantedOf (s .body)))) → Replied s ds ms a
+          → Stands a (sizesOf (s .body)) none (s .asked) (bind (valueSays v) (λ x. startAt (s .body .entered) x (measuredOf (s .body)) (wantedOf (s .body)))) → Replied s ds ms a
       replied-start v is e d = replied-objective v (s .body .entered) is _ (at-start s h e) d
 
-      pub replied-evaluation : (stage : Stage) (k : ℕ) → s .phase ≡ Evaluation stage k → Stands a none (s .asked) (fiveAt (s .body) stage k (readingOf (entriesOf ds ms))) → Replied s ds ms a
+      pub replied-evaluation : (stage : Stage) (k : ℕ) → s .phase ≡ Evaluation stage k → Stands a (sizesOf (s .body)) none (s .asked) (fiveAt (s .body) stage k (readingOf (entriesOf ds ms))) → Replied s ds ms a
       replied-evaluation stage k e d = taken _ shots _ (at-evaluation s h stage k e) l d
 
       pub replied-baseline : s .phase ≡ Phase.Baseline
-          → Stands a none (s .asked) (done (finishedWith (s .body) (summary.baselineOf (measuredOf (s .body)) (entries (entriesOf ds ms))))) → Replied s ds ms a
+          → Stands a (sizesOf (s .body)) none (s .asked) (done (finishedWith (s .body) (summary.baselineOf (measuredOf (s .body)) (entries (entriesOf ds ms))))) → Replied s ds ms a
       replied-baseline e d = taken _ shots _ (at-baseline s h e) l d
 
-    pub replied-bands : (k : ℕ) → T (rightLength (s .body .wanted .n) ds ms) → s .phase ≡ Bands k → Stands a none (s .asked) (fiveBandsAt (s .body) k (readingOf (entriesOf ds ms))) → Replied s ds ms a
+    pub replied-bands : (k : ℕ) → T (rightLength (s .body .wanted .n) ds ms) → s .phase ≡ Bands k → Stands a (sizesOf (s .body)) none (s .asked) (fiveBandsAt (s .body) k (readingOf (entriesOf ds ms))) → Replied s ds ms a
     replied-bands k l e d = taken _ distances _ (at-bands s h k e) l d
 
 -- ---- the baseline
@@ -339,6 +340,6 @@ module _ (b : Body) (ds : List Float) (ms : List Bool) (a : List Float) (has : B
       ∙ ap (λ (g : ℕ). baselineAt m g drops) gap-is
 
   pub concluded-stands : (r : Answer) (n : ℕ) → r ≡ reportedAt (withBaseline b a has) n
-      → Stands r none n (done (finishedWith b (summary.baselineOf (measuredOf b) (entries (entriesOf ds ms)))))
+      → Stands r (sizesOf b) none n (done (finishedWith b (summary.baselineOf (measuredOf b) (entries (entriesOf ds ms)))))
   concluded-stands r n e =
       stands-as e (stands-same (reported-stands (withBaseline b a has) n w) (ap (λ (x : Option Baseline). done (finishedWith b x)) baseline-is))

@@ -29,7 +29,7 @@ use Rattle.fitting.specs.declared.Stage.{Stage}
 use Rattle.fitting.specs.declared.Moved.{Moved}
 use Rattle.fitting.specs.declared.Wait.{Wait}
 use Rattle.fitting.specs.declared.Wait.the-variants as Wait
-use Rattle.session.specs.Meaning.{measuredOf, wantedOf, rowsAt, stencil, pointAt, rowsNext, afterBands, finishedOf, State, asking, standing, over, after, stateAt, withinOf, state, said, head, counted, moreOf, putAt, refusedAt, reportedAt, Stands, sumOf, valuedFrom, valueSays, Kind, kindOf, kindSaid, Said, question}
+use Rattle.session.specs.Meaning.{measuredOf, wantedOf, rowsAt, stencil, pointAt, rowsNext, afterBands, finishedOf, State, asking, standing, over, after, stateAt, withinOf, state, said, head, counted, moreOf, putAt, refusedAt, reportedAt, Sizes, sizesOf, Stands, sumOf, valuedFrom, valueSays, Kind, kindOf, kindSaid, Said, question}
 use Rattle.session.specs.declared.Body.{Body}
 use Rattle.session.specs.declared.Phase.{Phase}
 use Rattle.session.specs.declared.Phase.the-variants.{Over, Start, Evaluation, Trial, Look, Bands, Ended}
@@ -51,8 +51,8 @@ not-false false e = sym e
 
 -- ---- runs that are equal, and sessions within their limits
 
-pub stands-same : {a : Answer} {kept : Option Finished} {n : ℕ} {t u : Run Finished} → Stands a kept n t → t ≡ u → Stands a kept n u
-stands-same {a} {kept} {n} s e = subst (λ (x : Run Finished). Stands a kept n x) e s
+pub stands-same : {a : Answer} {z : Sizes} {kept : Option Finished} {n : ℕ} {t u : Run Finished} → Stands a z kept n t → t ≡ u → Stands a z kept n u
+stands-same {a} {z} {kept} {n} s e = subst (λ (x : Run Finished). Stands a z kept n x) e s
 
 same-either-way : {A : Type 0} (b : Bool) (x : A) → cond b x x ≡ x
 same-either-way true x = refl
@@ -87,34 +87,36 @@ within-progress b g h l =
 
 -- ---- the run ends
 
-pub refused-stands : (b : Body) (n number position : ℕ) → Stands (refusedAt b n number position) none n (refuse number position)
-refused-stands b n number position = record { leads = same-either-way (withinOf b) over; says = refl; counts = refl }
+pub refused-stands : (b : Body) (n number position : ℕ) → Stands (refusedAt b n number position) (sizesOf b) none n (refuse number position)
+refused-stands b n number position = record { leads = same-either-way (withinOf b) over; says = refl; counts = refl; sized = refl }
 
-pub reported-stands : (b : Body) (n : ℕ) → T (withinOf b) → Stands (reportedAt b n) none n (done (finishedOf b))
-reported-stands b n h = record { leads = state-within (reportedAt b n .session) h; says = refl; counts = refl }
+pub reported-stands : (b : Body) (n : ℕ) → T (withinOf b) → Stands (reportedAt b n) (sizesOf b) none n (done (finishedOf b))
+reported-stands b n h = record { leads = state-within (reportedAt b n .session) h; says = refl; counts = refl; sized = refl }
 
 -- ---- the fit waits
 
 module _ (b : Body) (g : Progress) (n : ℕ) (h : T (withinOf b)) (l : g .left ≤ 100) where
   pub evaluation-stands : (stage : Stage)
-      → Stands (putAt (withProgress b g) (Evaluation stage 0) n (g .point) Distances.Shots) none n (restOf (measuredOf b) (wantedOf b) g (Wait.Evaluation stage))
+      → Stands (putAt (withProgress b g) (Evaluation stage 0) n (g .point) Distances.Shots) (sizesOf b) none n (restOf (measuredOf b) (wantedOf b) g (Wait.Evaluation stage))
   unfolding likelihood.evaluate likelihood.truingJacobianRows
   evaluation-stands stage = record {
     leads = state-within (putAt (withProgress b g) (Evaluation stage 0) n (g .point) Distances.Shots .session) (within-progress b g h l);
     says = refl;
     counts = refl;
+    sized = refl;
   }
 
-  pub trial-stands : (q : Point) → Stands (putAt (withProgress b g) (Trial q) n q Distances.Shots) none n (restOf (measuredOf b) (wantedOf b) g (Wait.Trial q))
+  pub trial-stands : (q : Point) → Stands (putAt (withProgress b g) (Trial q) n q Distances.Shots) (sizesOf b) none n (restOf (measuredOf b) (wantedOf b) g (Wait.Trial q))
   unfolding likelihood.objective
   trial-stands q = record {
     leads = state-within (putAt (withProgress b g) (Trial q) n q Distances.Shots .session) (within-progress b g h l);
     says = refl;
     counts = refl;
+    sized = refl;
   }
 
   pub look-stands : (c : Point) → g .pass .evaluations < 1024
-      → Stands (putAt (withProgress b g) (Look c) n c Distances.Shots) none n (restOf (measuredOf b) (wantedOf b) g (Wait.Look c))
+      → Stands (putAt (withProgress b g) (Look c) n c Distances.Shots) (sizesOf b) none n (restOf (measuredOf b) (wantedOf b) g (Wait.Look c))
   unfolding likelihood.objective
   look-stands c e = record {
     leads =
@@ -122,12 +124,13 @@ module _ (b : Body) (g : Progress) (n : ℕ) (h : T (withinOf b)) (l : g .left �
         ∙ ap (λ (t : Bool). cond t (after none (restOf (measuredOf b) (wantedOf b) g (Wait.Look c))) over) (lt-ltb (g .pass .evaluations) 1024 e);
     says = refl;
     counts = refl;
+    sized = refl;
   }
 
 -- the same, for an answer and a wait that are known by equations
 module _ (b : Body) (moved : Moved) (n : ℕ) (r : Answer) (h : T (withinOf b)) (w : withinWait (moved .progress) (moved .wait)) where
   abbrev Waiting : Answer → Wait → Type 0
-  Waiting a x = Stands a none n (restOf (measuredOf b) (wantedOf b) (moved .progress) x)
+  Waiting a x = Stands a (sizesOf b) none n (restOf (measuredOf b) (wantedOf b) (moved .progress) x)
 
   pub waits-evaluation : (stage : Stage) → moved .wait ≡ Wait.Evaluation stage
       → r ≡ putAt (withProgress b (moved .progress)) (Evaluation stage 0) n (moved .progress .point) Distances.Shots
@@ -154,14 +157,14 @@ module _ (b : Body) (moved : Moved) (n : ℕ) (r : Answer) (h : T (withinOf b)) 
 
 -- an answer that is a refusal, where the value is one
 pub refused-value : (b : Body) (n : ℕ) (r : Answer) (v : Value) (number position : ℕ) (f : Float → Run Finished) → valueSays v ≡ refuse number position → r ≡ refusedAt b n number position
-    → Stands r none n (bind (valueSays v) f)
+    → Stands r (sizesOf b) none n (bind (valueSays v) f)
 refused-value b n r v number position f e a =
-    subst (λ (x : Answer). Stands x none n (bind (valueSays v) f)) (sym a)
-    (subst (λ (x : Run Float). Stands (refusedAt b n number position) none n (bind x f)) (sym e) (refused-stands b n number position))
+    subst (λ (x : Answer). Stands x (sizesOf b) none n (bind (valueSays v) f)) (sym a)
+    (subst (λ (x : Run Float). Stands (refusedAt b n number position) (sizesOf b) none n (bind x f)) (sym e) (refused-stands b n number position))
 
 -- an answer that goes on, where the value is a sum
-pub summed-value : (n : ℕ) (r : Answer) (v : Value) (x : Float) (f : Float → Run Finished) → v ≡ Sum x → Stands r none n (f x) → Stands r none n (bind (valueSays v) f)
-summed-value n r v x f e s = subst (λ (w : Value). Stands r none n (bind (valueSays w) f)) (sym e) s
+pub summed-value : {z : Sizes} (n : ℕ) (r : Answer) (v : Value) (x : Float) (f : Float → Run Finished) → v ≡ Sum x → Stands r z none n (f x) → Stands r z none n (bind (valueSays v) f)
+summed-value {z} n r v x f e s = subst (λ (w : Value). Stands r z none n (bind (valueSays w) f)) (sym e) s
 
 pub left-within : (b : Body) → T (withinOf b) → b .progress .left ≤ 100
 left-within b h = leb→le (b .progress .left) 100 (and-r (leb (b .shots .n) 64 && leb (b .wanted .n) 64) (leb (b .progress .left) 100) h)
@@ -195,12 +198,13 @@ module _ (ranges drops sigmas : List Float) (priors : TruingPriorsV1) (p : Point
 -- ---- a question
 
 pub asks-stands : (b : Body) (phase : Phase) (n : ℕ) (q : Point) (list : Distances) (t : Run Finished) (w : Which) (c : Reply → Run Finished)
-    → T (withinOf b) → stateAt b phase ≡ after none t → t ≡ ask q w c → kindSaid list ≡ kindOf w → Stands (putAt b phase n q list) none n t
+    → T (withinOf b) → stateAt b phase ≡ after none t → t ≡ ask q w c → kindSaid list ≡ kindOf w → Stands (putAt b phase n q list) (sizesOf b) none n t
 asks-stands b phase n q list t w c h s e k = record {
   leads = state-within (putAt b phase n q list .session) h ∙ s;
   says = ap (λ (x : Kind). question (q .mv) (q .bc) x) k ∙ sym (ap head e);
   counts = sym (ap (counted none n) e);
+  sized = refl;
 }
 
-pub stands-as : {r a : Answer} {kept : Option Finished} {n : ℕ} {t : Run Finished} → r ≡ a → Stands a kept n t → Stands r kept n t
-stands-as {r} {a} {kept} {n} {t} e s = subst (λ (x : Answer). Stands x kept n t) (sym e) s
+pub stands-as : {r a : Answer} {z : Sizes} {kept : Option Finished} {n : ℕ} {t : Run Finished} → r ≡ a → Stands a z kept n t → Stands r z kept n t
+stands-as {r} {a} {z} {kept} {n} {t} e s = subst (λ (x : Answer). Stands x z kept n t) (sym e) s

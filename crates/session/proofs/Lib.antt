@@ -3,3 +3,4 @@ pub mod Rows
 pub mod Steps
 pub mod OpenLaws
 pub mod CallLaws
+pub mod Demands

@@ -27,7 +27,7 @@ use Rattle.definition.specs.declared.Point.{Point}
 use Rattle.definition.specs.declared.TruingPriorsV1.{TruingPriorsV1}
 use Rattle.likelihood.specs.Arrays.{over, shortestOf}
 use Rattle.likelihood.specs.Laws.{over-suc, over-all, zip-length, zip-take, zip3-take, zip3-shortest, zip3-within, cond-none}
-use Rattle.session.specs.Meaning.{sigmaOf, requestedAt, requestedOf, measuredOf, wantedOf, putAt, refusedAt, Stands, Opened}
+use Rattle.session.specs.Meaning.{sigmaOf, requestedAt, requestedOf, measuredOf, wantedOf, putAt, refusedAt, Sizes, sizesOf, sizesFor, Stands, Opened}
 use Rattle.session.specs.Meaning as meaning
 use Rattle.session.specs.Opening.{futureOf, wantedAt, requestedFrom, openingOf, checkedSays, placesOf, sigmaOr0, shotsFrom, wantedFrom, Prepared}
 use Rattle.session.specs.declared.Body.{Body}
@@ -38,7 +38,7 @@ use Rattle.session.specs.declared.Checked.the-variants.{Sound, Faulty}
 use Rattle.session.specs.declared.Phase.the-variants.{Start}
 use Rattle.session.specs.declared.Answer.{Answer}
 use Rattle.session.specs.declared.Distances.the-variants as Distances
-use Rattle.session.proofs.Laws.{stands-same, state-within, refused-stands}
+use Rattle.session.proofs.Laws.{stands-same, stands-as, state-within, refused-stands}
 
 -- ---- the checks
 
@@ -194,35 +194,44 @@ wanted-requested ranges future given h s = go (shortestOf (length ranges) (lengt
 -- ---- the answers
 
 -- a run that starts puts the first question, at the entered point
-first-question : (b : Body) → T (meaning.withinOf b) → Stands (putAt b Start 0 (b .entered) Distances.Shots) none 0 (whole.run (measuredOf b) (wantedOf b))
+first-question : (b : Body) → T (meaning.withinOf b) → Stands (putAt b Start 0 (b .entered) Distances.Shots) (sizesOf b) none 0 (whole.run (measuredOf b) (wantedOf b))
 unfolding whole.run fit.fitMap likelihood.objective
-first-question b h = record { leads = state-within (putAt b Start 0 (b .entered) Distances.Shots .session) h; says = refl; counts = refl }
+first-question b h = record { leads = state-within (putAt b Start 0 (b .entered) Distances.Shots .session) h; says = refl; counts = refl; sized = refl }
 
 module _ (entered : Point) (ranges drops sigmas : List Float) (priors : TruingPriorsV1) (distances future : List Float) (given : List Bool) where
   abbrev o : Opening
   o = openingOf entered ranges drops sigmas priors distances future given
 
+  sizes-for : (b : Body) → Prepared entered ranges drops sigmas priors distances future given b → sizesOf b ≡ sizesFor o
+  sizes-for b p =
+      ap (λ (s : Shots). record { ofShots = s .n; ofDistances = b .wanted .n }) (p .shots)
+      ∙ ap (λ (n : ℕ). record { ofShots = n; ofDistances = b .wanted .n }) (sym (zip3-shortest observationOf ranges drops sigmas))
+      ∙ ap (λ (w : Wanted). record { ofShots = length (o .measured .observations); ofDistances = w .n }) (p .wanted)
+      ∙ ap (λ (n : ℕ). record { ofShots = length (o .measured .observations); ofDistances = n }) (sym (zip3-shortest wantedAt distances future given))
+
+  -- what stands for the run over the body's sizes stands for it over the opening's
+  stands-for : (a : Answer) (b : Body) → Prepared entered ranges drops sigmas priors distances future given b → Stands a (sizesOf b) none 0 (whole.whole o) → Opened o a
+  stands-for a b p s = record { is = subst (λ (z : Sizes). Stands a z none 0 (whole.whole o)) (sizes-for b p) s }
+
   -- the measured part is refused
-  pub opened-measured : (r : Answer) (b : Body) (c : Checked) (n i : ℕ) → checkedSays c ≡ checkedMeasured (o .measured) → c ≡ Faulty n i → r ≡ refusedAt b 0 n i → Opened o r
+  pub opened-measured : (r : Answer) (b : Body) (c : Checked) (n i : ℕ) → Prepared entered ranges drops sigmas priors distances future given b → checkedSays c ≡ checkedMeasured (o .measured) → c ≡ Faulty n i → r ≡ refusedAt b 0 n i → Opened o r
   unfolding whole.whole
-  opened-measured r b c n i e k a = record {
-    is =
-        subst (λ (x : Answer). Stands x none 0 (whole.whole o)) (sym a)
-        (stands-same (refused-stands b 0 n i)
-        (ap (λ (t : Run (Unit {0})). bind t (λ u. bind (checkedRequested (o .requested)) (λ v. whole.run (o .measured) (o .requested)))) (sym (ap checkedSays k) ∙ e)));
-  }
+  opened-measured r b c n i p e k a =
+      stands-for r b p
+      (stands-as a
+      (stands-same (refused-stands b 0 n i)
+      (ap (λ (t : Run (Unit {0})). bind t (λ u. bind (checkedRequested (o .requested)) (λ v. whole.run (o .measured) (o .requested)))) (sym (ap checkedSays k) ∙ e))))
 
   -- the requested distances are refused
-  pub opened-requested : (r : Answer) (b : Body) (c d : Checked) (n i : ℕ) → checkedSays c ≡ checkedMeasured (o .measured) → c ≡ Sound
+  pub opened-requested : (r : Answer) (b : Body) (c d : Checked) (n i : ℕ) → Prepared entered ranges drops sigmas priors distances future given b → checkedSays c ≡ checkedMeasured (o .measured) → c ≡ Sound
       → checkedSays d ≡ checkedRequested (o .requested) → d ≡ Faulty n i → r ≡ refusedAt b 0 n i → Opened o r
   unfolding whole.whole
-  opened-requested r b c d n i e k f l a = record {
-    is =
-        subst (λ (x : Answer). Stands x none 0 (whole.whole o)) (sym a)
-        (stands-same (refused-stands b 0 n i)
-        (ap (λ (t : Run (Unit {0})). bind t (λ v. whole.run (o .measured) (o .requested))) (sym (ap checkedSays l) ∙ f)
-        ∙ ap (λ (t : Run (Unit {0})). bind t (λ u. bind (checkedRequested (o .requested)) (λ v. whole.run (o .measured) (o .requested)))) (sym (ap checkedSays k) ∙ e)));
-  }
+  opened-requested r b c d n i p e k f l a =
+      stands-for r b p
+      (stands-as a
+      (stands-same (refused-stands b 0 n i)
+      (ap (λ (t : Run (Unit {0})). bind t (λ v. whole.run (o .measured) (o .requested))) (sym (ap checkedSays l) ∙ f)
+      ∙ ap (λ (t : Run (Unit {0})). bind t (λ u. bind (checkedRequested (o .requested)) (λ v. whole.run (o .measured) (o .requested)))) (sym (ap checkedSays k) ∙ e))))
 
   module _ (b : Body) (p : Prepared entered ranges drops sigmas priors distances future given b) (m : checkedMeasured (o .measured) ≡ done tt) (q : checkedRequested (o .requested) ≡ done tt) where
     shots-within : b .shots .n ≤ 64
@@ -263,11 +272,8 @@ module _ (entered : Point) (ranges drops sigmas : List Float) (priors : TruingPr
         ∙ ap (λ (t : Run (Unit {0})). bind t (λ u. bind (checkedRequested (o .requested)) (λ v. whole.run (o .measured) (o .requested)))) (sym m)
 
     asks : (r : Answer) → r ≡ putAt b Start 0 entered Distances.Shots → Opened o r
-    asks r a = record {
-      is =
-          subst (λ (x : Answer). Stands x none 0 (whole.whole o)) (sym (a ∙ ap (λ (x : Point). putAt b Start 0 x Distances.Shots) (sym (p .point))))
-          (stands-same (first-question b within) whole-is);
-    }
+    asks r a =
+        stands-for r b p (stands-as (a ∙ ap (λ (x : Point). putAt b Start 0 x Distances.Shots) (sym (p .point))) (stands-same (first-question b within) whole-is))
 
   -- nothing is refused
   pub opened-asks : (r : Answer) (b : Body) (c d : Checked) → Prepared entered ranges drops sigmas priors distances future given b

@@ -23,7 +23,7 @@ use Rattle.likelihood.specs.Laws.{sums-places, zip-length}
 use Rattle.fitting.specs.Meaning.{fitOf, afterRows}
 use Rattle.fitting.specs.declared.Progress.{Progress}
 use Rattle.fitting.specs.declared.Stage.{Stage}
-use Rattle.session.specs.Meaning.{requestedAt, requestedOf, measuredOf, wantedOf, rowsAt, bandRowsOf, stencil, stencilNext, pointAt, rowsNext, bandedAt, fiveAt, fiveBandsAt, afterBands, after, stateAt, withinOf, putAt, refusedAt, Stands}
+use Rattle.session.specs.Meaning.{requestedAt, requestedOf, measuredOf, wantedOf, rowsAt, bandRowsOf, stencil, stencilNext, pointAt, rowsNext, bandedAt, fiveAt, fiveBandsAt, afterBands, after, stateAt, withinOf, putAt, refusedAt, sizesOf, Stands}
 use Rattle.session.specs.declared.Body.{Body}
 use Rattle.session.specs.declared.Wanted.{Wanted}
 use Rattle.session.specs.declared.Table.{Table}
@@ -86,7 +86,7 @@ none-wanted : (b : Body) → b .wanted .n ≡ 0 → length (wantedOf b) ≡ 0
 none-wanted b e = ap (λ (n : ℕ). length (zipWith requestedAt (take n (b .wanted .ranges)) (take n (b .wanted .sigmas)))) e
 
 pub fitted-baseline : (b : Body) (e : Evaluated) (n : ℕ) → T (withinOf b) → b .table .gap ≡ 0 → b .wanted .n ≡ 0
-    → Stands (putAt (fittedBody b e) Phase.Baseline n (b .entered) Distances.Shots) none n (bandedAt b e)
+    → Stands (putAt (fittedBody b e) Phase.Baseline n (b .entered) Distances.Shots) (sizesOf b) none n (bandedAt b e)
 fitted-baseline b e n h g z =
     let m = measuredOf b in
     let ds = wantedOf b in
@@ -97,7 +97,7 @@ fitted-baseline b e n h g z =
     asks-stands (fittedBody b e) Phase.Baseline n (b .entered) Distances.Shots (bandedAt b e) shots _ h (ap (after none) (sym same)) (same ∙ concluded-asks m f e drops ds (rowsAt (b .wanted .n) (b .table))) refl
 
 pub fitted-bands : (b : Body) (e : Evaluated) (n : ℕ) → T (withinOf b) → (length (wantedOf b) ≡ 0 → ⊥)
-    → Stands (putAt (fittedBody b e) (Bands 0) n (b .progress .point) Distances.Requested) none n (bandedAt b e)
+    → Stands (putAt (fittedBody b e) (Bands 0) n (b .progress .point) Distances.Requested) (sizesOf b) none n (bandedAt b e)
 fitted-bands b e n h z =
     let m = measuredOf b in
     let ds = wantedOf b in
@@ -145,17 +145,17 @@ module _ (b : Body) (t : Table) (k n : ℕ) (d : Reading) (h : T (withinOf b)) w
     unfolding f
     by-table = ap (λ (r : likelihood.Rows). left k p shots r 11 f) (sym rows)
 
-    pub five-more : (q : Point) → k < 4 → q ≡ pointAt (k + 1) p → Stands (putAt (withTable b t) (Evaluation stage (k + 1)) n q Distances.Shots) none n (fiveAt b stage k d)
+    pub five-more : (q : Point) → k < 4 → q ≡ pointAt (k + 1) p → Stands (putAt (withTable b t) (Evaluation stage (k + 1)) n q Distances.Shots) (sizesOf b) none n (fiveAt b stage k d)
     unfolding f
     five-more q l e =
         let s : k + 1 ≡ suc k = add-one k in
         let same = by-table ∙ left-more k p shots (rowsAt (b .shots .n) t) 11 f l in
-        subst (λ (x : Point). Stands (putAt (withTable b t) (Evaluation stage (k + 1)) n x Distances.Shots) none n (fiveAt b stage k d)) (sym e)
-        (subst (λ (j : ℕ). Stands (putAt (withTable b t) (Evaluation stage j) n (pointAt j p) Distances.Shots) none n (fiveAt b stage k d)) (sym s)
+        subst (λ (x : Point). Stands (putAt (withTable b t) (Evaluation stage (k + 1)) n x Distances.Shots) (sizesOf b) none n (fiveAt b stage k d)) (sym e)
+        (subst (λ (j : ℕ). Stands (putAt (withTable b t) (Evaluation stage j) n (pointAt j p) Distances.Shots) (sizesOf b) none n (fiveAt b stage k d)) (sym s)
         (asks-stands (withTable b t) (Evaluation stage (suc k)) n (pointAt (suc k) p) Distances.Shots (fiveAt b stage k d) shots _ h (ap (after none) (sym same))
         (same ∙ stencil-left (suc k) p shots (rowsAt (b .shots .n) t) 11 f) refl))
 
-    pub five-gap : (g : ℕ) → 4 ≤ k → t .gap ≡ g → (g ≡ 0 → ⊥) → Stands (refusedAt (withTable b t) n 11 g) none n (fiveAt b stage k d)
+    pub five-gap : (g : ℕ) → 4 ≤ k → t .gap ≡ g → (g ≡ 0 → ⊥) → Stands (refusedAt (withTable b t) n 11 g) (sizesOf b) none n (fiveAt b stage k d)
     five-gap g l e z = stands-same (refused-stands (withTable b t) n 11 g) (sym (by-table ∙ left-gap k p shots (rowsAt (b .shots .n) t) 11 f g l e z))
 
     pub five-whole : 4 ≤ k → t .gap ≡ 0 → afterRows (measuredOf b) (wantedOf b) (b .progress) stage (rowsAt (b .shots .n) t) ≡ fiveAt b stage k d
@@ -166,19 +166,19 @@ module _ (b : Body) (t : Table) (k n : ℕ) (d : Reading) (h : T (withinOf b)) w
     bands-by-table : fiveBandsAt b k d ≡ left k p distances (rowsAt (b .wanted .n) t) 13 (afterBands b)
     bands-by-table = ap (λ (r : likelihood.Rows). left k p distances r 13 (afterBands b)) (sym rows)
 
-    pub bands-more : (q : Point) → k < 4 → q ≡ pointAt (k + 1) p → Stands (putAt (withTable b t) (Bands (k + 1)) n q Distances.Requested) none n (fiveBandsAt b k d)
+    pub bands-more : (q : Point) → k < 4 → q ≡ pointAt (k + 1) p → Stands (putAt (withTable b t) (Bands (k + 1)) n q Distances.Requested) (sizesOf b) none n (fiveBandsAt b k d)
     bands-more q l e =
         let s : k + 1 ≡ suc k = add-one k in
         let same = bands-by-table ∙ left-more k p distances (rowsAt (b .wanted .n) t) 13 (afterBands b) l in
-        subst (λ (x : Point). Stands (putAt (withTable b t) (Bands (k + 1)) n x Distances.Requested) none n (fiveBandsAt b k d)) (sym e)
-        (subst (λ (j : ℕ). Stands (putAt (withTable b t) (Bands j) n (pointAt j p) Distances.Requested) none n (fiveBandsAt b k d)) (sym s)
+        subst (λ (x : Point). Stands (putAt (withTable b t) (Bands (k + 1)) n x Distances.Requested) (sizesOf b) none n (fiveBandsAt b k d)) (sym e)
+        (subst (λ (j : ℕ). Stands (putAt (withTable b t) (Bands j) n (pointAt j p) Distances.Requested) (sizesOf b) none n (fiveBandsAt b k d)) (sym s)
         (asks-stands (withTable b t) (Bands (suc k)) n (pointAt (suc k) p) Distances.Requested (fiveBandsAt b k d) distances _ h (ap (after none) (sym same))
         (same ∙ stencil-left (suc k) p distances (rowsAt (b .wanted .n) t) 13 (afterBands b)) refl))
 
-    pub bands-gap : (g : ℕ) → 4 ≤ k → t .gap ≡ g → (g ≡ 0 → ⊥) → Stands (refusedAt (withTable b t) n 13 g) none n (fiveBandsAt b k d)
+    pub bands-gap : (g : ℕ) → 4 ≤ k → t .gap ≡ g → (g ≡ 0 → ⊥) → Stands (refusedAt (withTable b t) n 13 g) (sizesOf b) none n (fiveBandsAt b k d)
     bands-gap g l e z = stands-same (refused-stands (withTable b t) n 13 g) (sym (bands-by-table ∙ left-gap k p distances (rowsAt (b .wanted .n) t) 13 (afterBands b) g l e z))
 
-    pub bands-whole : 4 ≤ k → t .gap ≡ 0 → Stands (putAt (withTable b t) Phase.Baseline n (b .entered) Distances.Shots) none n (fiveBandsAt b k d)
+    pub bands-whole : 4 ≤ k → t .gap ≡ 0 → Stands (putAt (withTable b t) Phase.Baseline n (b .entered) Distances.Shots) (sizesOf b) none n (fiveBandsAt b k d)
     bands-whole l e =
         let same = bands-by-table ∙ left-whole k p distances (rowsAt (b .wanted .n) t) 13 (afterBands b) l e in
         asks-stands (withTable b t) Phase.Baseline n (b .entered) Distances.Shots (fiveBandsAt b k d) shots _ h (ap (after none) (sym same))

@@ -1,2 +1,3 @@
 pub mod Meaning
 pub mod Opening
+pub mod Demands

@@ -252,21 +252,33 @@ refusedAt b n number position = record { step = Refused number position; session
 abbrev pub reportedAt : Body → ℕ → Answer
 reportedAt b n = record { step = Report; session = record { body = b; phase = Ended; asked = n } }
 
--- the answer stands for the run, which started with this finished run kept and this count
-pub record Stands (a : Answer) (kept : Option Finished) (n : ℕ) (t : Run Finished) : Type 0 where
+-- how many observations and requested distances there are
+pub record Sizes : Type 0 where
+  pub ofShots : ℕ
+  pub ofDistances : ℕ
+
+abbrev pub sizesOf : Body → Sizes
+sizesOf b = record { ofShots = b .shots .n; ofDistances = b .wanted .n }
+
+abbrev pub sizesFor : Opening → Sizes
+sizesFor o = record { ofShots = length (o .measured .observations); ofDistances = length (o .requested) }
+
+-- the answer stands for the run, over so many observations and distances, which started with this finished run kept and this count
+pub record Stands (a : Answer) (z : Sizes) (kept : Option Finished) (n : ℕ) (t : Run Finished) : Type 0 where
   pub leads : state (a .session) ≡ after kept t
   pub says : said (a .step) ≡ head t
   pub counts : a .session .asked ≡ counted kept n t
+  pub sized : sizesOf (a .session .body) ≡ z
 
 -- a declined call: its number, and the session as it was
 abbrev pub Declines : Answer → Session → ℕ → Type 0
 Declines a s n = a ≡ record { step = Refused n 0; session = s }
 
 -- how many entries a question wants
-abbrev pub wants : Session → Which → ℕ
-wants s shots = s .body .shots .n
-wants s distances = s .body .wanted .n
-wants s (new d) = 1
+abbrev pub wants : Sizes → Which → ℕ
+wants z shots = z .ofShots
+wants z distances = z .ofDistances
+wants z (new d) = 1
 
 abbrev pub either : Bool → Type 0 → Type 0 → Type 0
 either true A B = A
@@ -282,7 +294,7 @@ entriesTaken (standing c) s ds ms a = Declines a s 8
 entriesTaken (asking kept (done c)) s ds ms a = Declines a s 8
 entriesTaken (asking kept (refuse n i)) s ds ms a = Declines a s 8
 entriesTaken (asking kept (ask p w k)) s ds ms a =
-    either (rightLength (wants s w) ds ms) (Stands a kept (s .asked) (k (entries (entriesOf ds ms)))) (Declines a s 9)
+    either (rightLength (wants (sizesOf (s .body)) w) ds ms) (Stands a (sizesOf (s .body)) kept (s .asked) (k (entries (entriesOf ds ms)))) (Declines a s 9)
 
 -- a refusal of the point: 8 where no question is open, and else the run goes on with it
 abbrev pub refusalTaken : State → Session → Answer → Type 0
@@ -290,7 +302,7 @@ refusalTaken over s a = Declines a s 8
 refusalTaken (standing c) s a = Declines a s 8
 refusalTaken (asking kept (done c)) s a = Declines a s 8
 refusalTaken (asking kept (refuse n i)) s a = Declines a s 8
-refusalTaken (asking kept (ask p w k)) s a = Stands a kept (s .asked) (k refused)
+refusalTaken (asking kept (ask p w k)) s a = Stands a (sizesOf (s .body)) kept (s .asked) (k refused)
 
 -- the contracts of the calls
 pub record Replied (s : Session) (ds : List Float) (ms : List Bool) (a : Answer) : Type 0 where
@@ -300,4 +312,4 @@ pub record PointRefused (s : Session) (a : Answer) : Type 0 where
   pub is : refusalTaken (state s) s a
 
 pub record Opened (o : Opening) (a : Answer) : Type 0 where
-  pub is : Stands a none 0 (whole.whole o)
+  pub is : Stands a (sizesFor o) none 0 (whole.whole o)

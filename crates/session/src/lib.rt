@@ -21,7 +21,7 @@ ghost use Rattle.definition.specs.Meaning.{observationsOf};
 ghost use Rattle.definition.specs.Whole.{soundRequestedOf, faultyRequested, checkedMeasured, checkedRequested};
 ghost use Rattle.likelihood.specs.Arrays.{entriesOf};
 ghost use Rattle.fitting.specs.Meaning.{restOf, withinWait, afterRows, afterTrial, afterLook, startAt};
-ghost use Rattle.session.specs.Meaning.{moreOf, withinOf, rightLength, valueSays, valuedFrom, sumOf, measuredOf, wantedOf, rowsAt, rowsNext, pointAt, HasWanted, bandedAt, fiveAt, fiveBandsAt, putAt, refusedAt, reportedAt, finishedWith, Stands, Declines, Opened, Replied, PointRefused};
+ghost use Rattle.session.specs.Meaning.{moreOf, withinOf, rightLength, valueSays, valuedFrom, sumOf, measuredOf, wantedOf, rowsAt, rowsNext, pointAt, HasWanted, bandedAt, fiveAt, fiveBandsAt, putAt, refusedAt, reportedAt, finishedWith, sizesOf, Stands, Declines, Opened, Replied, PointRefused};
 ghost use Rattle.session.specs.Opening.{wantedAt, requestedFrom, measuredFrom, openingOf, checkedSays, placesOf, sigmaOr0, shotsFrom, wantedFrom, Prepared};
 
 pub enum Distances {
@@ -170,7 +170,7 @@ fn reported(b: Body, asked: u64) -> Answer
 
 // The fit has come to this, and waits for its next question.
 fn waits(b: Body, moved: Moved, asked: u64) -> Answer
-    ensures { λ r. ⌜ (T (withinOf b) → withinWait (moved .progress) (moved .wait) → Stands r none asked (restOf (measuredOf b) (wantedOf b) (moved .progress) (moved .wait))) ⌝ }
+    ensures { λ r. ⌜ (T (withinOf b) → withinWait (moved .progress) (moved .wait) → Stands r (sizesOf b) none asked (restOf (measuredOf b) (wantedOf b) (moved .progress) (moved .wait))) ⌝ }
 {
     let progress = moved.progress;
     let wait = moved.wait;
@@ -217,7 +217,7 @@ fn value_of<'a>(
 
 // The objective at the entered point is there, or is refused.
 fn started(b: Body, asked: u64, value: Value) -> Answer
-    ensures { λ r. ⌜ (T (withinOf b) → Stands r none asked (bind (valueSays value) (λ v. startAt (b .entered) v (measuredOf b) (wantedOf b)))) ⌝ }
+    ensures { λ r. ⌜ (T (withinOf b) → Stands r (sizesOf b) none asked (bind (valueSays value) (λ v. startAt (b .entered) v (measuredOf b) (wantedOf b)))) ⌝ }
 {
     match value {
         Value::Gap(i) => refused(b, asked, 11, i),
@@ -232,7 +232,7 @@ fn started(b: Body, asked: u64, value: Value) -> Answer
 
 // The objective at a candidate of the damping trials is there, or is refused.
 fn tried(b: Body, asked: u64, q: Point, value: Value) -> Answer
-    ensures { λ r. ⌜ (T (withinOf b) → Stands r none asked (bind (valueSays value) (afterTrial (measuredOf b) (wantedOf b) (b .progress) q))) ⌝ }
+    ensures { λ r. ⌜ (T (withinOf b) → Stands r (sizesOf b) none asked (bind (valueSays value) (afterTrial (measuredOf b) (wantedOf b) (b .progress) q))) ⌝ }
 {
     match value {
         Value::Gap(i) => refused(b, asked, 11, i),
@@ -247,7 +247,7 @@ fn tried(b: Body, asked: u64, q: Point, value: Value) -> Answer
 
 // The objective at a candidate of the poll is there, or is refused.
 fn looked(b: Body, asked: u64, c: Point, value: Value) -> Answer
-    ensures { λ r. ⌜ (T (withinOf b) → b .progress .pass .evaluations < 1024 → Stands r none asked (bind (valueSays value) (afterLook (measuredOf b) (wantedOf b) (b .progress) c))) ⌝ }
+    ensures { λ r. ⌜ (T (withinOf b) → b .progress .pass .evaluations < 1024 → Stands r (sizesOf b) none asked (bind (valueSays value) (afterLook (measuredOf b) (wantedOf b) (b .progress) c))) ⌝ }
 {
     match value {
         Value::Gap(i) => refused(b, asked, 11, i),
@@ -323,7 +323,7 @@ fn has_wanted(w: Wanted) -> bool
 // The evaluation at the fit is there: it is kept, and the requested distances come next, or, with none, the baseline.
 fn at_fit(b: Body, e: Evaluation, asked: u64) -> Answer
     requires { ⌜ T (withinOf b) × (b .table .gap ≡ 0) ⌝ }
-    ensures { λ r. ⌜ Stands r none asked (bandedAt b e) ⌝ }
+    ensures { λ r. ⌜ Stands r (sizesOf b) none asked (bandedAt b e) ⌝ }
 {
     let g = b.progress;
     let p = g.point;
@@ -345,7 +345,7 @@ fn at_fit(b: Body, e: Evaluation, asked: u64) -> Answer
 // The rows at the observations are there, without a gap.
 fn evaluated(b: Body, stage: Stage, asked: u64) -> Answer
     requires { ⌜ T (withinOf b) × (b .table .gap ≡ 0) ⌝ }
-    ensures { λ r. ⌜ Stands r none asked (afterRows (measuredOf b) (wantedOf b) (b .progress) stage (rowsAt (b .shots .n) (b .table))) ⌝ }
+    ensures { λ r. ⌜ Stands r (sizesOf b) none asked (afterRows (measuredOf b) (wantedOf b) (b .progress) stage (rowsAt (b .shots .n) (b .table))) ⌝ }
 {
     let g = b.progress;
     let p = g.point;
@@ -373,7 +373,7 @@ fn evaluated(b: Body, stage: Stage, asked: u64) -> Answer
 // The k-th reply to the five questions at the observations is there. A gap is judged after the fifth.
 fn five(b: Body, stage: Stage, k: usize, asked: u64, reply: &[f64], missing: &[bool]) -> Answer
     requires { ⌜ T (withinOf b) × (length (now reply) ≡ b .shots .n) × (length (now missing) ≡ b .shots .n) ⌝ }
-    ensures { λ r. ⌜ Stands r none asked (fiveAt b stage k (readingOf (entriesOf (now (reply .entry)) (now (missing .entry))))) ⌝ }
+    ensures { λ r. ⌜ Stands r (sizesOf b) none asked (fiveAt b stage k (readingOf (entriesOf (now (reply .entry)) (now (missing .entry))))) ⌝ }
 {
     let p = b.progress.point;
     let old = b.table;
@@ -399,7 +399,7 @@ fn five(b: Body, stage: Stage, k: usize, asked: u64, reply: &[f64], missing: &[b
 // The k-th reply to the five questions at the requested distances is there.
 fn five_bands(b: Body, k: usize, asked: u64, reply: &[f64], missing: &[bool]) -> Answer
     requires { ⌜ T (withinOf b) × (length (now reply) ≡ b .wanted .n) × (length (now missing) ≡ b .wanted .n) ⌝ }
-    ensures { λ r. ⌜ Stands r none asked (fiveBandsAt b k (readingOf (entriesOf (now (reply .entry)) (now (missing .entry))))) ⌝ }
+    ensures { λ r. ⌜ Stands r (sizesOf b) none asked (fiveBandsAt b k (readingOf (entriesOf (now (reply .entry)) (now (missing .entry))))) ⌝ }
 {
     let p = b.progress.point;
     let entered = b.entered;
@@ -432,7 +432,7 @@ fn laid(a: [f64; 64], reply: &[f64], missing: &[bool]) -> [f64; 64]
 // The reply at the entered point is there, and the run ends with its report. With a gap, or a sum that is not finite, there is no baseline.
 fn concluded<'a>(b: Body, asked: u64, reply: &'a [f64], missing: &'a [bool]) -> Answer
     requires { ⌜ T (withinOf b) × (length (now reply) ≡ b .shots .n) × (length (now missing) ≡ b .shots .n) ⌝ }
-    ensures { λ r. ⌜ Stands r none asked (done (finishedWith b (summary.baselineOf (measuredOf b) (entries (entriesOf (now (reply .entry)) (now (missing .entry))))))) ⌝ }
+    ensures { λ r. ⌜ Stands r (sizesOf b) none asked (done (finishedWith b (summary.baselineOf (measuredOf b) (entries (entriesOf (now (reply .entry)) (now (missing .entry))))))) ⌝ }
 {
     let gap = likelihood::first_gap(reply, missing);
     let chi = likelihood::chi_square(&b.shots.ranges, &b.shots.drops, &b.shots.sigmas, reply);

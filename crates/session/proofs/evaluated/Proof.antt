@@ -9,7 +9,7 @@ use Rattle.definition.specs.Meaning.{observationsOf}
 use Rattle.definition.specs.Likelihood.{finishedOf, sumsOf, rowOf}
 use Rattle.fitting.specs.Meaning.{afterRows}
 use Rattle.fitting.specs.declared.Stage.{Stage}
-use Rattle.session.specs.Meaning.{measuredOf, wantedOf, rowsAt, bandedAt, Stands}
+use Rattle.session.specs.Meaning.{measuredOf, wantedOf, rowsAt, bandedAt, sizesOf, Stands}
 use Rattle.session.proofs.Laws.{stands-same, left-within}
 use Rattle.session.proofs.Steps.{table-evaluation}
 use Rattle.session.proofs.evaluated.Statement.{statement}
@@ -61,7 +61,7 @@ returns c =
     table-evaluation b (c .before .before .before .before .evaluate .result)
     (subst (λ (l : List Float). c .before .before .before .before .evaluate .result ≡ finishedOf (b .priors) (b .progress .point) (sumsOf (b .progress .point) (observationsOf l (b .shots .drops) (b .shots .sigmas)) (zipWith3 rowOf (b .table .predicted) (b .table .«by_mv») (b .table .«by_bc»)))) (c .before .before .before .before .before .before .before .before .before .before .before .before .before .before .before .first-places .ensures) (c .before .before .before .before .evaluate .ensures)) in
     let moves = c .before .after-iteration .ensures (left-within b (c .before .before .before .before .before .before .before .before .before .before .before .before .before .before .before .before .before .before .before .before .before .before .pre .0)) in
-    subst (λ (s : Stage). Stands (c .waits .result) none (c .before .before .before .before .before .before .before .before .before .before .before .before .before .before .before .before .before .before .before .before .before .before .args .asked) (afterRows (measuredOf b) (wantedOf b) (b .progress) s (rowsAt (b .shots .n) (b .table)))) (sym (c .before .before .enum-told .given .1))
+    subst (λ (s : Stage). Stands (c .waits .result) (sizesOf b) none (c .before .before .before .before .before .before .before .before .before .before .before .before .before .before .before .before .before .before .before .before .before .before .args .asked) (afterRows (measuredOf b) (wantedOf b) (b .progress) s (rowsAt (b .shots .n) (b .table)))) (sym (c .before .before .enum-told .given .1))
     (stands-same (c .waits .ensures (c .before .before .before .before .before .before .before .before .before .before .before .before .before .before .before .before .before .before .before .before .before .before .pre .0) (moves .within)) (moves .leads (measuredOf b) (wantedOf b) (rowsAt (b .shots .n) (b .table)) is))
 
 returns-2 : tie.Need-returns-2
@@ -71,7 +71,7 @@ returns-2 c =
     table-evaluation b (c .before .before .before .before .evaluate .result)
     (subst (λ (l : List Float). c .before .before .before .before .evaluate .result ≡ finishedOf (b .priors) (b .progress .point) (sumsOf (b .progress .point) (observationsOf l (b .shots .drops) (b .shots .sigmas)) (zipWith3 rowOf (b .table .predicted) (b .table .«by_mv») (b .table .«by_bc»)))) (c .before .before .before .before .before .before .before .before .before .before .before .before .before .before .before .first-places .ensures) (c .before .before .before .before .evaluate .ensures)) in
     let moves = c .before .after-final .ensures (left-within b (c .before .before .before .before .before .before .before .before .before .before .before .before .before .before .before .before .before .before .before .before .before .before .pre .0)) in
-    subst (λ (s : Stage). Stands (c .waits2 .result) none (c .before .before .before .before .before .before .before .before .before .before .before .before .before .before .before .before .before .before .before .before .before .before .args .asked) (afterRows (measuredOf b) (wantedOf b) (b .progress) s (rowsAt (b .shots .n) (b .table)))) (sym (c .before .before .enum-told2 .given .1))
+    subst (λ (s : Stage). Stands (c .waits2 .result) (sizesOf b) none (c .before .before .before .before .before .before .before .before .before .before .before .before .before .before .before .before .before .before .before .before .before .before .args .asked) (afterRows (measuredOf b) (wantedOf b) (b .progress) s (rowsAt (b .shots .n) (b .table)))) (sym (c .before .before .enum-told2 .given .1))
     (stands-same (c .waits2 .ensures (c .before .before .before .before .before .before .before .before .before .before .before .before .before .before .before .before .before .before .before .before .before .before .pre .0) (moves .within)) (moves .leads (measuredOf b) (wantedOf b) (rowsAt (b .shots .n) (b .table)) is))
 
 returns-3 : tie.Need-returns-3
@@ -81,7 +81,7 @@ returns-3 c =
     table-evaluation b (c .before .before .before .before .evaluate .result)
     (subst (λ (l : List Float). c .before .before .before .before .evaluate .result ≡ finishedOf (b .priors) (b .progress .point) (sumsOf (b .progress .point) (observationsOf l (b .shots .drops) (b .shots .sigmas)) (zipWith3 rowOf (b .table .predicted) (b .table .«by_mv») (b .table .«by_bc»)))) (c .before .before .before .before .before .before .before .before .before .before .before .before .before .before .before .first-places .ensures) (c .before .before .before .before .evaluate .ensures)) in
     let moves = c .before .after-mesh .ensures (left-within b (c .before .before .before .before .before .before .before .before .before .before .before .before .before .before .before .before .before .before .before .before .before .before .pre .0)) in
-    subst (λ (s : Stage). Stands (c .waits3 .result) none (c .before .before .before .before .before .before .before .before .before .before .before .before .before .before .before .before .before .before .before .before .before .before .args .asked) (afterRows (measuredOf b) (wantedOf b) (b .progress) s (rowsAt (b .shots .n) (b .table)))) (sym (c .before .before .enum-told3 .given .1))
+    subst (λ (s : Stage). Stands (c .waits3 .result) (sizesOf b) none (c .before .before .before .before .before .before .before .before .before .before .before .before .before .before .before .before .before .before .before .before .before .before .args .asked) (afterRows (measuredOf b) (wantedOf b) (b .progress) s (rowsAt (b .shots .n) (b .table)))) (sym (c .before .before .enum-told3 .given .1))
     (stands-same (c .waits3 .ensures (c .before .before .before .before .before .before .before .before .before .before .before .before .before .before .before .before .before .before .before .before .before .before .pre .0) (moves .within)) (moves .leads (measuredOf b) (wantedOf b) (rowsAt (b .shots .n) (b .table)) is))
 
 returns-4 : tie.Need-returns-4
@@ -90,7 +90,7 @@ returns-4 c =
     let is =
     table-evaluation b (c .before .before .before .evaluate .result)
     (subst (λ (l : List Float). c .before .before .before .evaluate .result ≡ finishedOf (b .priors) (b .progress .point) (sumsOf (b .progress .point) (observationsOf l (b .shots .drops) (b .shots .sigmas)) (zipWith3 rowOf (b .table .predicted) (b .table .«by_mv») (b .table .«by_bc»)))) (c .before .before .before .before .before .before .before .before .before .before .before .before .before .before .first-places .ensures) (c .before .before .before .evaluate .ensures)) in
-    subst (λ (s : Stage). Stands (c .at-fit .result) none (c .before .before .before .before .before .before .before .before .before .before .before .before .before .before .before .before .before .before .before .before .before .args .asked) (afterRows (measuredOf b) (wantedOf b) (b .progress) s (rowsAt (b .shots .n) (b .table)))) (sym (c .before .enum-told4 .given .1))
+    subst (λ (s : Stage). Stands (c .at-fit .result) (sizesOf b) none (c .before .before .before .before .before .before .before .before .before .before .before .before .before .before .before .before .before .before .before .before .before .args .asked) (afterRows (measuredOf b) (wantedOf b) (b .progress) s (rowsAt (b .shots .n) (b .table)))) (sym (c .before .enum-told4 .given .1))
     (stands-same (c .at-fit .ensures) (ap (bandedAt b) (sym is)))
 
 pub evaluated-spec : {M : Type 1} → statement M

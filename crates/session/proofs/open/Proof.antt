@@ -37,14 +37,14 @@ puts-requires c κs = search needs
 returns : tie.Need-returns
 returns c =
     let a = c .before .before .before .before .before .before .before .before .before .before .before .before .args in
-    opened-measured (a .entered) (a .ranges .now) (a .drops .now) (a .sigmas .now) (a .priors) (a .distances .now) (a .future .now) (a .given .now) (c .refused .result) (c .before .before .before .before .before .prepared .result) (c .before .before .before .before .check-measured .result) _ _ (c .before .before .before .before .check-measured .ensures) (c .before .before .number .given .1)
+    opened-measured (a .entered) (a .ranges .now) (a .drops .now) (a .sigmas .now) (a .priors) (a .distances .now) (a .future .now) (a .given .now) (c .refused .result) (c .before .before .before .before .before .prepared .result) (c .before .before .before .before .check-measured .result) _ _ (c .before .before .before .before .before .prepared .ensures) (c .before .before .before .before .check-measured .ensures) (c .before .before .number .given .1)
     (c .refused .ensures)
 
 returns-2 : tie.Need-returns-2
 returns-2 c =
     let a = c .before .before .before .before .before .before .before .before .before .before .before .before .before .before .before .args in
     opened-requested (a .entered) (a .ranges .now) (a .drops .now) (a .sigmas .now) (a .priors) (a .distances .now) (a .future .now) (a .given .now) (c .refused2 .result) (c .before .before .before .before .before .before .before .before .prepared .result) (c .before .before .before .before .before .before .before .check-measured .result) (c .before .before .before .before .check-requested .result) _ _
-    (c .before .before .before .before .before .before .before .check-measured .ensures) (c .before .before .before .before .before .enum-told .given .1) (c .before .before .before .before .check-requested .ensures) (c .before .before .number2 .given .1)
+    (c .before .before .before .before .before .before .before .before .prepared .ensures) (c .before .before .before .before .before .before .before .check-measured .ensures) (c .before .before .before .before .before .enum-told .given .1) (c .before .before .before .before .check-requested .ensures) (c .before .before .number2 .given .1)
     (c .refused2 .ensures)
 
 returns-3 : tie.Need-returns-3

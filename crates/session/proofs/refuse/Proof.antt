@@ -97,7 +97,7 @@ returns-8 c =
 
 returns-9 : tie.Need-returns-9
 returns-9 c =
-    point-baseline (c .before .before .before .before .before .before .before .before .before .before .before .before .before .before .args .s) (c .reported .result) (held _ _ (c .before .before .before .before .before .before .before .before .before .before .before .before .is-within .ensures) (c .before .before .before .before .before .before .before .before .before .before .before .if1 .left)) (withBaseline (c .before .before .before .before .before .before .before .before .before .before .before .before .before .before .args .s .body) (c .before .before .before .before .before .before .before .before .before .before .before .before .before .before .args .s .body .baseline) false) (c .before .before .before .before .before .before .before .before .before .enum-told3 .given .1) (held _ _ (c .before .before .before .before .before .before .before .before .before .before .before .before .is-within .ensures) (c .before .before .before .before .before .before .before .before .before .before .before .if1 .left)) refl (c .reported .ensures)
+    point-baseline (c .before .before .before .before .before .before .before .before .before .before .before .before .before .before .args .s) (c .reported .result) (held _ _ (c .before .before .before .before .before .before .before .before .before .before .before .before .is-within .ensures) (c .before .before .before .before .before .before .before .before .before .before .before .if1 .left)) (withBaseline (c .before .before .before .before .before .before .before .before .before .before .before .before .before .before .args .s .body) (c .before .before .before .before .before .before .before .before .before .before .before .before .before .before .args .s .body .baseline) false) (c .before .before .before .before .before .before .before .before .before .enum-told3 .given .1) (held _ _ (c .before .before .before .before .before .before .before .before .before .before .before .before .is-within .ensures) (c .before .before .before .before .before .before .before .before .before .before .before .if1 .left)) refl refl (c .reported .ensures)
 
 returns-10 : tie.Need-returns-10
 returns-10 c =
