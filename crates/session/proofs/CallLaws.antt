@@ -77,7 +77,7 @@ state-used s c h e l =
 
 -- ---- the open questions
 
-objective-asks : (m : Measured) (q : Point) (f : Float → Run Finished)
+pub objective-asks : (m : Measured) (q : Point) (f : Float → Run Finished)
     → bind (likelihood.objective m q) f ≡ ask q shots (λ reply. bind (bind (answered reply) (likelihood.valued m q)) f)
 unfolding likelihood.objective
 objective-asks m q f = refl

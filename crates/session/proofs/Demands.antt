@@ -19,7 +19,8 @@ use Rattle.definition.proofs.Questions.{count}
 use Rattle.fitting.proofs.Laws.{bind-assoc}
 use Rattle.likelihood.specs.Arrays.{entriesOf}
 use Rattle.session.specs.Meaning.{State, asking, standing, over, after, state, Said, question, refusal, said, head, ofShots, moreOf, counted, Sizes, sizesOf, sizesFor, wants, rightLength, Stands, Declines, either, entriesTaken, refusalTaken, Opened, Replied, PointRefused}
-use Rattle.session.specs.Demands.{Call, reply, refusePoint, Made, Meets, Chained, resume, replyOf, fits, Taking, declines, takes, taking, noted, due, stance, nowTaken, Throughout, checked, OpensProperly, EndsProperly, Demand1, OpensAsDefined, AsDefined, Demand2}
+use Rattle.session.specs.Reading.{reportIn, Shows, placeIn, baselineResults}
+use Rattle.session.specs.Demands.{Call, reply, refusePoint, Made, Meets, Chained, resume, replyOf, fits, Taking, declines, takes, taking, noted, due, stance, nowTaken, Throughout, checked, OpensProperly, EndsProperly, Demand1, reportFrom, ReadsAs, OpensAsDefined, AsDefined, Demand2}
 use Rattle.session.specs.declared.Session.{Session}
 use Rattle.session.specs.declared.Answer.{Answer}
 
@@ -66,6 +67,23 @@ counted-plus n (done c) h = refl
 counted-plus n (refuse m i) h = refl
 counted-plus n (ask p w k) h = ap (λ (b : Bool). cond b (suc n) n) (lt-ltb n 0xffff_ffff_ffff_ffff (omega arith))
 
+-- ---- the report
+
+report-after : (t : Run Finished) → reportIn (after none t) ≡ reportFrom t
+report-after (done c) = refl
+report-after (refuse n i) = refl
+report-after (ask p w k) = refl
+
+reads-as : (s : Session) (t : Run Finished) → state s ≡ after none t → ReadsAs s (reportFrom t)
+reads-as s t e =
+    let same : reportIn (state s) ≡ reportFrom t = ap reportIn e ∙ report-after t in
+    record {
+      heads = λ r d. subst (Shows r) same (d .is);
+      results = λ i r d. d .is ∙ ap (placeIn (λ q. q .observations) i) same;
+      baseline-results = λ i r d. d .is ∙ ap (placeIn baselineResults i) same;
+      bands = λ i r d. d .is ∙ ap (placeIn (λ q. q .bands) i) same;
+    }
+
 -- ---- one call
 
 -- what a session stands for after these replies
@@ -99,6 +117,9 @@ module _ (o : Opening) (rs : List Reply) (s : Session) (h : Holds o rs s) where
         defined = record {
           says = number ∙ ap (λ (t : Taking). due t (resume (whole o) (noted t rs (c .call)))) (sym e);
           counts = asked ∙ ap (put (whole o)) (sym rest);
+          reads =
+              reads-as (c .answer .session) (resume (whole o) (nowTaken o rs (c .call)))
+              (ap state same ∙ h .leads ∙ ap (λ (l : List Reply). after none (resume (whole o) l)) (sym rest));
         };
       }
     where
@@ -118,7 +139,11 @@ module _ (o : Opening) (rs : List Reply) (s : Session) (h : Holds o rs s) where
       record {
         holds = record { leads = d .leads ∙ ap (after none) (sym goes); sized = d .sized ∙ h .sized; counts = counts };
         proper = record { declined = λ n f. absurd (apart (sym e ∙ f)); limited = limited (nowTaken o rs (c .call)) (c .answer .session .asked) counts };
-        defined = record { says = d .says ∙ ap head (sym goes) ∙ ap (λ (t : Taking). due t (resume (whole o) (nowTaken o rs (c .call)))) (sym e); counts = counts };
+        defined = record {
+          says = d .says ∙ ap head (sym goes) ∙ ap (λ (t : Taking). due t (resume (whole o) (nowTaken o rs (c .call)))) (sym e);
+          counts = counts;
+          reads = reads-as (c .answer .session) (resume (whole o) (nowTaken o rs (c .call))) (d .leads ∙ ap (after none) (sym goes));
+        };
       }
     where
       apart : {n : ℕ} → takes ≡ declines n → ⊥
@@ -203,4 +228,4 @@ pub demand-1 : Demand1
 demand-1 o a m cs ch = (opens-properly o a m, walk-1 o [] a cs (begins o a m) ch)
 
 pub demand-2 : Demand2
-demand-2 o a m cs ch = (record { says = m .is .says; counts = m .is .counts ∙ first-count o (whole o) }, walk-2 o [] a cs (begins o a m) ch)
+demand-2 o a m cs ch = (record { says = m .is .says; counts = m .is .counts ∙ first-count o (whole o); reads = reads-as (a .session) (whole o) (m .is .leads) }, walk-2 o [] a cs (begins o a m) ch)

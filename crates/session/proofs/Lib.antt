@@ -3,4 +3,5 @@ pub mod Rows
 pub mod Steps
 pub mod OpenLaws
 pub mod CallLaws
+pub mod ReadLaws
 pub mod Demands

@@ -27,8 +27,9 @@ use Rattle.definition.specs.declared.Point.{Point}
 use Rattle.definition.specs.declared.TruingPriorsV1.{TruingPriorsV1}
 use Rattle.likelihood.specs.Arrays.{over, shortestOf}
 use Rattle.likelihood.specs.Laws.{over-suc, over-all, zip-length, zip-take, zip3-take, zip3-shortest, zip3-within, cond-none}
-use Rattle.session.specs.Meaning.{sigmaOf, requestedAt, requestedOf, measuredOf, wantedOf, putAt, refusedAt, Sizes, sizesOf, sizesFor, Stands, Opened}
+use Rattle.session.specs.Meaning.{requestedOf, measuredOf, wantedOf, putAt, refusedAt, Sizes, sizesOf, sizesFor, Stands, Opened}
 use Rattle.session.specs.Meaning as meaning
+use Rattle.report.specs.Places.{sigmaOf, requestedAt}
 use Rattle.session.specs.Opening.{futureOf, wantedAt, requestedFrom, openingOf, checkedSays, placesOf, sigmaOr0, shotsFrom, wantedFrom, Prepared}
 use Rattle.session.specs.declared.Body.{Body}
 use Rattle.session.specs.declared.Shots.{Shots}

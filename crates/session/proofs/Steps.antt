@@ -23,7 +23,8 @@ use Rattle.likelihood.specs.Laws.{sums-places, zip-length}
 use Rattle.fitting.specs.Meaning.{fitOf, afterRows}
 use Rattle.fitting.specs.declared.Progress.{Progress}
 use Rattle.fitting.specs.declared.Stage.{Stage}
-use Rattle.session.specs.Meaning.{requestedAt, requestedOf, measuredOf, wantedOf, rowsAt, bandRowsOf, stencil, stencilNext, pointAt, rowsNext, bandedAt, fiveAt, fiveBandsAt, afterBands, after, stateAt, withinOf, putAt, refusedAt, sizesOf, Stands}
+use Rattle.report.specs.Places.{requestedAt}
+use Rattle.session.specs.Meaning.{requestedOf, measuredOf, wantedOf, rowsAt, bandRowsOf, stencil, stencilNext, pointAt, rowsNext, bandedAt, fiveAt, fiveBandsAt, afterBands, after, stateAt, withinOf, putAt, refusedAt, sizesOf, Stands}
 use Rattle.session.specs.declared.Body.{Body}
 use Rattle.session.specs.declared.Wanted.{Wanted}
 use Rattle.session.specs.declared.Table.{Table}

@@ -4,15 +4,21 @@ use Prim.Native.Nat.{ℕ, _≤_}
 use mathlib.Core.Path.{_≡_}
 use mathlib.Core.Bool.{Bool, true, cond}
 use mathlib.Core.List.{List, [], _∷_, _++_}
+use mathlib.Core.Option.{Option, none, some}
 use lib.Ieee.{Float}
 use Rattle.definition.specs.Request.{Opening}
 use Rattle.definition.specs.Run.{Run, done, refuse, ask, bind, Reply, refused, entries, Which}
-use Rattle.definition.specs.Summary.{Finished}
+use Rattle.definition.specs.Summary.{Finished, Report, reportOf}
 use Rattle.definition.specs.Whole.{whole, checkedMeasured, checkedRequested}
 use Rattle.definition.specs.Laws.{put}
 use Rattle.likelihood.specs.Arrays.{entriesOf}
 use Rattle.session.specs.Meaning.{Said, question, refusal, said, head, ofShots, Sizes, sizesFor, wants, rightLength, Opened, Replied, PointRefused}
+use Rattle.report.specs.Places.{resultSays, bandAtSays}
+use Rattle.report.specs.declared.ResultAt.{ResultAt}
+use Rattle.report.specs.declared.BandAt.{BandAt}
+use Rattle.session.specs.Reading.{Shows, placeIn, baselineResults, ReportRead, ResultRead, BaselineResultRead, BandRead}
 use Rattle.session.specs.declared.Session.{Session}
+use Rattle.session.specs.declared.Shown.{Shown}
 use Rattle.session.specs.declared.Answer.{Answer}
 
 -- ---- the calls of a host
@@ -110,16 +116,31 @@ pub record EndsProperly (o : Opening) (rs : List Reply) (s : Session) (c : Made)
 abbrev pub Demand1 : Type 0
 Demand1 = Whatever OpensProperly EndsProperly
 
--- ---- demand 2: every question and the outcome are the definition's, whatever is replied
+-- ---- demand 2: every question and the whole report, or the lack of one, are the definition's, whatever is replied
+
+-- the report that a run has ended in
+abbrev pub reportFrom : Run Finished → Option Report
+reportFrom (done c) = some (reportOf c)
+reportFrom (refuse n i) = none
+reportFrom (ask p w k) = none
+
+-- what the calls that read this session give is this report, in its head and in each place of its lists, or that there is none
+pub record ReadsAs (s : Session) (p : Option Report) : Type 0 where
+  pub heads : (r : Shown) → ReportRead s r → Shows r p
+  pub results : (i : ℕ) (r : ResultAt) → ResultRead s i r → resultSays r ≡ placeIn (λ q. q .observations) i p
+  pub baseline-results : (i : ℕ) (r : ResultAt) → BaselineResultRead s i r → resultSays r ≡ placeIn baselineResults i p
+  pub bands : (i : ℕ) (r : BandAt) → BandRead s i r → bandAtSays r ≡ placeIn (λ q. q .bands) i p
 
 pub record OpensAsDefined (o : Opening) (a : Answer) : Type 0 where
   pub says : said (a .step) ≡ head (whole o)
   pub counts : a .session .asked ≡ put (whole o) []
+  pub reads : ReadsAs (a .session) (reportFrom (whole o))
 
--- what is said, and the number of questions that were put
+-- what is said, the number of questions that were put, and the report
 pub record AsDefined (o : Opening) (rs : List Reply) (s : Session) (c : Made) : Type 0 where
   pub says : said (c .answer .step) ≡ due (stance o rs (c .call)) (resume (whole o) (nowTaken o rs (c .call)))
   pub counts : c .answer .session .asked ≡ put (whole o) (nowTaken o rs (c .call))
+  pub reads : ReadsAs (c .answer .session) (reportFrom (resume (whole o) (nowTaken o rs (c .call))))
 
 -- Theorem `demand-2`.
 abbrev pub Demand2 : Type 0

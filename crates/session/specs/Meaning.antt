@@ -6,8 +6,8 @@ use mathlib.Core.List.{List, [], _∷_}
 use mathlib.Core.Option.{Option, none, some}
 use lib.Dec.{leb, ltb, eqb}
 use lib.ListN.{length, take}
-use lib.Ieee.{Float, lt}
-use Rattle.numeric.specs.Numeric.{zero64, finite}
+use lib.Ieee.{Float}
+use Rattle.numeric.specs.Numeric.{finite}
 use Rattle.definition.specs.Lists.{firstOf, zipWith}
 use Rattle.definition.specs.Meaning.{observationsOf}
 use Rattle.definition.specs.Request.{Requested, Measured, Opening}
@@ -23,6 +23,7 @@ use Rattle.fitting.specs.Meaning.{fitOf, afterRows, restOf, withinWait}
 use Rattle.fitting.specs.declared.Progress.{Progress}
 use Rattle.fitting.specs.declared.Stage.{Stage}
 use Rattle.fitting.specs.declared.Wait.the-variants as Wait
+use Rattle.report.specs.Places.{requestedAt}
 use Rattle.session.specs.declared.Shots.{Shots}
 use Rattle.session.specs.declared.Wanted.{Wanted}
 use Rattle.session.specs.declared.Table.{Table}
@@ -40,13 +41,6 @@ use Rattle.session.specs.declared.Distances.{Distances}
 use Rattle.session.specs.declared.Distances.the-variants as Distances
 
 -- ---- the request
-
--- a sigma of 0 stands for none: one that is given is above 0
-abbrev pub sigmaOf : Float → Option Float
-sigmaOf x = cond (lt zero64 x) (some x) none
-
-abbrev pub requestedAt : Float → Float → Requested
-requestedAt range sigma = record { range = range; sigma = sigmaOf sigma }
 
 abbrev pub requestedOf : Wanted → List Requested
 requestedOf w = zipWith requestedAt (take (w .n) (w .ranges)) (take (w .n) (w .sigmas))

@@ -2,11 +2,17 @@
 use definition::Evaluation;
 use definition::Number;
 use definition::Point;
+use definition::TruingApproximationV1;
 use definition::TruingPriorsV1;
 use fitting::Moved;
 use fitting::Progress;
 use fitting::Stage;
 use fitting::Wait;
+use report::BandAt;
+use report::Baseline;
+use report::ResultAt;
+use report::TruingBaselineV1;
+use report::UncertaintyTruingReportV1;
 ghost use mathlib.Core.Path.{_≡_};
 ghost use mathlib.Core.Bool.{_&&_};
 ghost use mathlib.Core.List.{map};
@@ -16,12 +22,16 @@ ghost use lib.Dec.{T, leb};
 ghost use lib.ListN.{length, take};
 ghost use Rattle.definition.specs.Run.{bind, done, entries, readingOf, dropOr0};
 ghost use Rattle.definition.specs.Summary as summary;
-ghost use Rattle.definition.specs.Lists.{firstAt, zipWith};
-ghost use Rattle.definition.specs.Meaning.{observationsOf};
+ghost use Rattle.definition.specs.Lists.{any, firstAt, zipWith};
+ghost use Rattle.definition.specs.Meaning.{observationsOf, convergenceOf, approximationSays};
+ghost use Rattle.definition.specs.Summary.{isOutside};
 ghost use Rattle.definition.specs.Whole.{soundRequestedOf, faultyRequested, checkedMeasured, checkedRequested};
 ghost use Rattle.likelihood.specs.Arrays.{entriesOf};
 ghost use Rattle.fitting.specs.Meaning.{restOf, withinWait, afterRows, afterTrial, afterLook, startAt};
-ghost use Rattle.session.specs.Meaning.{moreOf, withinOf, rightLength, valueSays, valuedFrom, sumOf, measuredOf, wantedOf, rowsAt, rowsNext, pointAt, HasWanted, bandedAt, fiveAt, fiveBandsAt, putAt, refusedAt, reportedAt, finishedWith, sizesOf, Stands, Declines, Opened, Replied, PointRefused};
+ghost use Rattle.session.specs.Meaning.{moreOf, requestedOf, withinOf, rightLength, valueSays, valuedFrom, sumOf, measuredOf, wantedOf, rowsAt, rowsNext, pointAt, HasWanted, bandedAt, fiveAt, fiveBandsAt, putAt, refusedAt, reportedAt, finishedWith, sizesOf, Stands, Declines, Opened, Replied, PointRefused};
+ghost use Rattle.report.specs.Places.{nth, resultSays, bandAtSays};
+ghost use Rattle.report.specs.Report.{baselineSays};
+ghost use Rattle.session.specs.Reading.{isEnded, standsIn, observationsAt, resultsAt, bandsAt, baselineAt, ResultsCount, BandsCount, ReportRead, ResultRead, BaselineResultRead, BandRead};
 ghost use Rattle.session.specs.Opening.{wantedAt, requestedFrom, measuredFrom, openingOf, checkedSays, placesOf, sigmaOr0, shotsFrom, wantedFrom, Prepared};
 
 pub enum Distances {
@@ -813,4 +823,194 @@ pub fn reply<'a>(s: Session, reply: &'a [f64], missing: &'a [bool]) -> Answer
         }
         Phase::Ended => declined(s, 8),
     }
+}
+
+// ---- reading
+
+// The report that stands, but for its lists, which are read place by place; or that none stands.
+pub enum Shown {
+    Absent,
+    Given(UncertaintyTruingReportV1),
+}
+
+fn is_ended(phase: Phase) -> bool
+    ensures { λ r. ⌜ r ≡ isEnded phase ⌝ }
+{
+    match phase {
+        Phase::Over => false,
+        Phase::Start => false,
+        Phase::Evaluation(_stage, _k) => false,
+        Phase::Trial(_q) => false,
+        Phase::Look(_c) => false,
+        Phase::Bands(_k) => false,
+        Phase::Baseline => false,
+        Phase::Ended => true,
+    }
+}
+
+// Whether a report stands.
+fn is_standing(s: Session) -> bool
+    ensures { λ r. ⌜ r ≡ standsIn s ⌝ }
+{
+    let b = s.body;
+    let phase = s.phase;
+    is_within(b.shots.n, b.wanted.n, b.progress.left) & is_ended(phase)
+}
+
+// How many observation results there are.
+fn results_count(shots: Shots, drops: [f64; 64]) -> usize
+    ensures { λ r. ⌜ ResultsCount shots drops r ⌝ }
+{
+    shots.n
+}
+
+// How many bands there are.
+fn bands_count(wanted: Wanted, table: Table) -> usize
+    ensures { λ r. ⌜ BandsCount wanted table r ⌝ }
+{
+    wanted.n
+}
+
+// Whether a requested distance lies outside the observed ones.
+fn any_outside(shots: Shots, wanted: Wanted) -> bool
+    ensures { λ r. ⌜ (shots .n ≤ 64 → wanted .n ≤ 64 → r ≡ any (isOutside (observationsAt shots)) (requestedOf wanted)) ⌝ }
+{
+    let n = shots.n;
+    let m = wanted.n;
+    report::outside(
+        likelihood::first_places(&shots.ranges, n),
+        likelihood::first_places(&wanted.ranges, m),
+    )
+}
+
+// The baseline from the drops at the entered point.
+fn baseline_of(shots: Shots, entered: Point, drops: [f64; 64], present: bool) -> Baseline
+    ensures { λ r. ⌜ baselineSays r (resultsAt shots drops) ≡ baselineAt shots entered drops present ⌝ }
+{
+    if !present {
+        return Baseline::Absent;
+    }
+    let n = shots.n;
+    let chi_square = likelihood::chi_square(
+        &shots.ranges,
+        &shots.drops,
+        &shots.sigmas,
+        likelihood::first_places(&drops, n),
+    );
+    Baseline::Given(TruingBaselineV1 {
+        muzzle_velocity_fps: entered.mv,
+        ballistic_coefficient: entered.bc,
+        chi_square,
+    })
+}
+
+// The i-th observation result at these drops.
+fn result_of(shots: Shots, drops: [f64; 64], i: usize) -> ResultAt
+    ensures { λ r. ⌜ resultSays r ≡ nth i (resultsAt shots drops) ⌝ }
+{
+    let n = shots.n;
+    report::result_at(
+        i,
+        likelihood::first_places(&shots.ranges, n),
+        &shots.drops,
+        &shots.sigmas,
+        &drops,
+    )
+}
+
+// The approximation at the fit.
+fn approximation_of(g: Progress) -> TruingApproximationV1
+    ensures { λ r. ⌜ approximationSays r ≡ summary.approximationOf (summary.converged (convergenceOf (g .convergence))) (g .point) (g .evaluation .«posterior_information») ⌝ }
+{
+    let p = g.point;
+    let information = g.evaluation.posterior_information;
+    let convergence = g.convergence;
+    let converged = warnings::is_converged(convergence);
+    summary::approximation(converged, p, information)
+}
+
+// The i-th band.
+fn band_of(a: TruingApproximationV1, wanted: Wanted, table: Table, i: usize) -> BandAt
+    ensures { λ r. ⌜ bandAtSays r ≡ nth i (bandsAt (approximationSays a) wanted table) ⌝ }
+{
+    let n = wanted.n;
+    report::band_at(
+        i,
+        a,
+        likelihood::first_places(&wanted.ranges, n),
+        &wanted.sigmas,
+        &table.predicted,
+        &table.by_mv,
+        &table.by_bc,
+    )
+}
+
+// How many questions the run has put.
+pub fn asked(s: Session) -> u64
+    ensures { λ r. ⌜ r ≡ s .asked ⌝ }
+{
+    s.asked
+}
+
+// The report that stands, but for its lists.
+pub fn report(s: Session) -> Shown
+    ensures { λ r. ⌜ ReportRead s r ⌝ }
+{
+    if !is_standing(s) {
+        return Shown::Absent;
+    }
+    let shots = s.body.shots;
+    let wanted = s.body.wanted;
+    let entered = s.body.entered;
+    let priors = s.body.priors;
+    let table = s.body.table;
+    let g = s.body.progress;
+    let predicted = s.body.predicted;
+    let drops = s.body.baseline;
+    let baseline = baseline_of(shots, entered, drops, s.body.has_baseline);
+    let n = results_count(shots, predicted);
+    let m = bands_count(wanted, table);
+    let outside = any_outside(shots, wanted);
+    Shown::Given(report::report(n, m, g, priors, baseline, outside))
+}
+
+// The i-th observation result of the report that stands, counted from 0.
+pub fn observation_result(s: Session, i: usize) -> ResultAt
+    ensures { λ r. ⌜ ResultRead s i r ⌝ }
+{
+    if !is_standing(s) {
+        return ResultAt::Absent;
+    }
+    let shots = s.body.shots;
+    let predicted = s.body.predicted;
+    result_of(shots, predicted, i)
+}
+
+// The i-th observation result of its baseline, if it has one.
+pub fn baseline_result(s: Session, i: usize) -> ResultAt
+    ensures { λ r. ⌜ BaselineResultRead s i r ⌝ }
+{
+    if !is_standing(s) {
+        return ResultAt::Absent;
+    }
+    if !s.body.has_baseline {
+        return ResultAt::Absent;
+    }
+    let shots = s.body.shots;
+    let drops = s.body.baseline;
+    result_of(shots, drops, i)
+}
+
+// The i-th band of the report that stands.
+pub fn predictive_band(s: Session, i: usize) -> BandAt
+    ensures { λ r. ⌜ BandRead s i r ⌝ }
+{
+    if !is_standing(s) {
+        return BandAt::Absent;
+    }
+    let g = s.body.progress;
+    let wanted = s.body.wanted;
+    let table = s.body.table;
+    let a = approximation_of(g);
+    band_of(a, wanted, table, i)
 }

@@ -1,0 +1,47 @@
+-- `any_outside`: over the first places.
+use mathlib.Core.Path.{_≡_, ap, _∙_}
+use mathlib.Core.List.{List}
+use lib.Ieee.{Float}
+use lib.ListN.{length, take}
+use borrow.Author.Needs.{needs}
+use Rattle.report.specs.Places.{anyOutsideOf}
+use Rattle.session.proofs.ReadLaws.{outside-places}
+use Rattle.session.proofs.any_outside.Statement.{statement}
+use Rattle.session.proofs.any_outside.Tie as tie
+
+long-ranges : (c : tie.Start) → length (c .args .t1 .ranges) ≡ 64
+long-ranges c = search needs
+
+long-drops : (c : tie.Start) → length (c .args .t1 .drops) ≡ 64
+long-drops c = search needs
+
+long-sigmas : (c : tie.Start) → length (c .args .t1 .sigmas) ≡ 64
+long-sigmas c = search needs
+
+long-wanted : (c : tie.Start) → length (c .args .t2 .ranges) ≡ 64
+long-wanted c = search needs
+
+long-future : (c : tie.Start) → length (c .args .t2 .sigmas) ≡ 64
+long-future c = search needs
+
+first-places-requires : tie.Need-first-places-requires
+first-places-requires c κs = search needs
+
+first-places-requires-2 : tie.Need-first-places-requires-2
+first-places-requires-2 c κs = search needs
+
+outside-requires : tie.Need-outside-requires
+outside-requires c κs = search needs
+
+returns : tie.Need-returns
+returns c = λ h k.
+    let s = c .before .before .before .before .before .before .before .before .before .args .t1 in
+    let w = c .before .before .before .before .before .before .before .before .before .args .t2 in
+    c .outside .ensures
+    ∙ ap (λ (l : List Float). anyOutsideOf l (c .before .first-places2 .result .now)) (c .before .before .before .before .before .first-places .ensures)
+    ∙ ap (λ (l : List Float). anyOutsideOf (take (s .n) (s .ranges)) l) (c .before .first-places2 .ensures)
+    ∙ outside-places s w (long-ranges (c .before .before .before .before .before .before .before .before .before)) (long-drops (c .before .before .before .before .before .before .before .before .before)) (long-sigmas (c .before .before .before .before .before .before .before .before .before)) (long-wanted (c .before .before .before .before .before .before .before .before .before)) (long-future (c .before .before .before .before .before .before .before .before .before)) h k
+
+pub any-outside-spec : {M : Type 1} → statement M
+any-outside-spec =
+    tie.close (tie.spec first-places-requires first-places-requires-2 outside-requires returns)
