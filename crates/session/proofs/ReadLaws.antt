@@ -133,7 +133,7 @@ taken-length : (n : ℕ) (xs : List Float) → length xs ≡ 64 → n ≤ 64 →
 taken-length n xs e h = let l = length-take n xs in omega arith
 
 -- the arrays have 64 places each
-module _ (s : Shots) (drops : List Float) (r : length (s .ranges) ≡ 64) (d : length (s .drops) ≡ 64) (g : length (s .sigmas) ≡ 64) (p : length drops ≡ 64) where
+module _ (s : Shots) (r : length (s .ranges) ≡ 64) (d : length (s .drops) ≡ 64) (g : length (s .sigmas) ≡ 64) where
   observed : s .n ≤ 64 → length (observationsAt s) ≡ s .n
   observed h =
       let a = taken-length (s .n) (s .ranges) r h in
@@ -141,13 +141,11 @@ module _ (s : Shots) (drops : List Float) (r : length (s .ranges) ≡ 64) (d : l
       let c = taken-length (s .n) (s .sigmas) g h in
       zip3-length observationOf (take (s .n) (s .ranges)) (take (s .n) (s .drops)) (take (s .n) (s .sigmas)) (b ∙ sym a) (c ∙ sym a) ∙ a
 
-  pub counts-results : ResultsCount s drops (s .n)
-  counts-results = record {
-    observed = observed;
-    results = λ h.
-        let a = observed h in
-        zip-length resultOf (observationsAt s) (take (s .n) drops) (taken-length (s .n) drops p h ∙ sym a) ∙ a;
-  }
+  results-length : (drops : List Float) → length drops ≡ 64 → s .n ≤ 64 → length (resultsAt s drops) ≡ s .n
+  results-length drops p h = let a = observed h in zip-length resultOf (observationsAt s) (take (s .n) drops) (taken-length (s .n) drops p h ∙ sym a) ∙ a
+
+  pub counts-results : (predicted drops : List Float) → length predicted ≡ 64 → length drops ≡ 64 → ResultsCount s predicted drops (s .n)
+  counts-results predicted drops p q = record { observed = observed; results = results-length predicted p; entered = results-length drops q }
 
 module _ (w : Wanted) (t : Table) (r : length (w .ranges) ≡ 64) (g : length (w .sigmas) ≡ 64) (p : length (t .predicted) ≡ 64) (m : length (t .«by_mv») ≡ 64) (b : length (t .«by_bc») ≡ 64) where
   wanted : w .n ≤ 64 → length (requestedOf w) ≡ w .n
@@ -191,6 +189,10 @@ read-again : (b : Baseline) (results : Results) → baselineSays b results ≡ b
 read-again Absent results = refl
 read-again (Given b) results = refl
 
+at-most : (b : Baseline) (results : Results) → length (ofBaseline (baselineSays b results)) ≤ length results
+at-most Absent results = omega arith
+at-most (Given b) results = omega arith
+
 head-lists : (h : UncertaintyTruingReportV1) (results entered : Results) (bands : List Band) (p : Report) → p ≡ seenOf h results entered bands
     → p ≡ seenOf h (p .observations) (ofBaseline (p .baseline)) (p .bands)
 head-lists h results entered bands p e =
@@ -211,7 +213,7 @@ head-lists h results entered bands p e =
 
 module _ (b : Body) (h : UncertaintyTruingReportV1) (n m : ℕ) (baseline : Baseline) (outside : Bool)
     (w : T (withinOf b)) (shows : head.Shows h n m (b .progress) (b .priors) baseline outside)
-    (results : ResultsCount (b .shots) (b .predicted) n) (bands : BandsCount (b .wanted) (b .table) m)
+    (results : ResultsCount (b .shots) (b .predicted) (b .baseline) n) (bands : BandsCount (b .wanted) (b .table) m)
     (is-outside : b .shots .n ≤ 64 → b .wanted .n ≤ 64 → outside ≡ any (isOutside (observationsAt (b .shots))) (requestedOf (b .wanted)))
     (is-baseline : baselineSays baseline (resultsAt (b .shots) (b .baseline)) ≡ baselineAt (b .shots) (b .entered) (b .baseline) (b .«has_baseline»)) where
   parts : PartsOf (finishedOf b) n m (b .progress) (b .priors) baseline (resultsAt (b .shots) (b .baseline)) outside
@@ -232,6 +234,13 @@ module _ (b : Body) (h : UncertaintyTruingReportV1) (n m : ℕ) (baseline : Base
   head-of = record {
     seen = head-lists h _ _ _ (reportOf (finishedOf b)) seen;
     results = shows .results ∙ sym (ap (λ (p : Report). length (p .observations)) seen ∙ results .results (shots-within b w));
+    baseline-results =
+        let l = at-most (h .baseline) (resultsAt (b .shots) (b .baseline)) in
+        let e : length (ofBaseline (reportOf (finishedOf b) .baseline)) ≡ length (ofBaseline (baselineSays (h .baseline) (resultsAt (b .shots) (b .baseline)))) =
+        ap (λ (p : Report). length (ofBaseline (p .baseline))) seen in
+        let k = results .entered (shots-within b w) in
+        let m = shows .results in
+        omega arith;
     bands = shows .bands ∙ sym (ap (λ (p : Report). length (p .bands)) seen ∙ bands .bands (approximationSays (h .approximation)) (wanted-within b w));
   }
 

@@ -42,10 +42,11 @@ abbrev pub ofBaseline : Option summary.Baseline → Results
 ofBaseline none = []
 ofBaseline (some b) = b .observations
 
--- the head is that of this report: with the three lists it is the report, and its two counts are those of the lists
+-- the head is that of this report: with the three lists it is the report, and its counts are those of the lists, the first also that of the baseline's list
 pub record HeadOf (h : UncertaintyTruingReportV1) (p : Report) : Type 0 where
   pub seen : p ≡ seenOf h (p .observations) (ofBaseline (p .baseline)) (p .bands)
   pub results : h .observations ≡ length (p .observations)
+  pub baseline-results : length (ofBaseline (p .baseline)) ≤ h .observations
   pub bands : h .«predictive_bands» ≡ length (p .bands)
 
 abbrev pub Shows : Shown → Option Report → Type 0
@@ -105,9 +106,10 @@ baselineAt s entered drops present =
     cond present (some (record { entered = entered; chiSquare = chiSquareOf (observationsAt s) (take (s .n) drops); observations = resultsAt s drops })) none
 
 -- within the 64 places the count is that of the observations, and of their results
-pub record ResultsCount (s : Shots) (drops : List Float) (r : ℕ) : Type 0 where
+pub record ResultsCount (s : Shots) (predicted drops : List Float) (r : ℕ) : Type 0 where
   pub observed : s .n ≤ 64 → length (observationsAt s) ≡ r
-  pub results : s .n ≤ 64 → length (resultsAt s drops) ≡ r
+  pub results : s .n ≤ 64 → length (resultsAt s predicted) ≡ r
+  pub entered : s .n ≤ 64 → length (resultsAt s drops) ≡ r
 
 -- within the 64 places the count is that of the requested distances, and of their bands
 pub record BandsCount (w : Wanted) (t : Table) (r : ℕ) : Type 0 where

@@ -857,9 +857,9 @@ fn is_standing(s: Session) -> bool
     is_within(b.shots.n, b.wanted.n, b.progress.left) & is_ended(phase)
 }
 
-// How many observation results there are.
-fn results_count(shots: Shots, drops: [f64; 64]) -> usize
-    ensures { λ r. ⌜ ResultsCount shots drops r ⌝ }
+// How many observation results there are at the fit, and at the entered point.
+fn results_count(shots: Shots, predicted: [f64; 64], drops: [f64; 64]) -> usize
+    ensures { λ r. ⌜ ResultsCount shots predicted drops r ⌝ }
 {
     shots.n
 }
@@ -968,7 +968,7 @@ pub fn report(s: Session) -> Shown
     let predicted = s.body.predicted;
     let drops = s.body.baseline;
     let baseline = baseline_of(shots, entered, drops, s.body.has_baseline);
-    let n = results_count(shots, predicted);
+    let n = results_count(shots, predicted, drops);
     let m = bands_count(wanted, table);
     let outside = any_outside(shots, wanted);
     Shown::Given(report::report(n, m, g, priors, baseline, outside))
