@@ -1,0 +1,46 @@
+-- The texts of a session's answers: by what an answer says, and by the report that stands.
+use mathlib.Core.Bool.{Bool, true, false}
+use mathlib.Core.List.{List, []}
+use mathlib.Core.Option.{Option, none, some}
+use Rattle.definition.specs.Summary.{Band, Report}
+use Rattle.report.specs.Report.{Results}
+use Rattle.session.specs.Meaning.{state, Kind, ofShots, ofDistances, ofNew, Said, question, report, refusal, said}
+use Rattle.session.specs.Reading.{reportIn, baselineResults}
+use Rattle.session.specs.declared.Session.{Session}
+use Rattle.session.specs.declared.Answer.{Answer}
+use Rattle.texts.specs.Writing.{Text}
+use Rattle.texts.specs.Texts.{questionText, declinedText, reportText}
+use Rattle.texts.specs.declared.Kind.{Kind as Word}
+use Rattle.texts.specs.declared.Kind.the-variants.{Shots, Distances, New}
+
+-- the word for the list of distances that a question is about
+abbrev pub kindIn : Kind → Word
+kindIn ofShots = Shots
+kindIn ofDistances = Distances
+kindIn ofNew = New
+
+-- the report that stands, written out, or nothing where none does
+abbrev pub standingText : Option Report → Text
+standingText none = []
+standingText (some p) = reportText p
+
+abbrev pub saidText : Said → Option Report → Text
+saidText (question mv bc list) p = questionText (kindIn list) mv bc
+saidText report p = standingText p
+saidText (refusal number position) p = declinedText number position
+
+unfoldable pub answerText : Answer → Text
+answerText a = saidText (said (a .step)) (reportIn (state (a .session)))
+
+-- ---- the lists of the report that stands, empty where none does
+
+abbrev pub listIn : {A : Type 0} → (Report → List A) → Option Report → List A
+listIn f none = []
+listIn f (some p) = f p
+
+abbrev pub resultsIn : Bool → Session → Results
+resultsIn true s = listIn baselineResults (reportIn (state s))
+resultsIn false s = listIn (λ p. p .observations) (reportIn (state s))
+
+abbrev pub bandsIn : Session → List Band
+bandsIn s = listIn (λ p. p .bands) (reportIn (state s))

@@ -1,0 +1,43 @@
+-- `forms::feed` meets its contract. Assumes nothing.
+use borrow.Author.Needs.{needs}
+use mathlib.Core.Path.{_∙_, ap}
+use Rattle.forms.specs.declared.Reading.{Reading}
+use Rattle.forms.specs.Numbers.{saysDouble}
+use Rattle.forms.specs.Lines.{entryFrom}
+use Rattle.forms.specs.Reading.{withFieldOf, withEntryOf}
+use Rattle.forms.proofs.Steps.{feed-long, feed-first, feed-next}
+use Rattle.forms.proofs.feed.Statement.{statement}
+use Rattle.forms.proofs.feed.Tie as tie
+
+spoiled-requires : tie.Need-spoiled-requires
+spoiled-requires c κs = search needs
+
+returns : tie.Need-returns
+returns c = let a = c .before .before .before .args in c .spoiled .ensures ∙ feed-long (a .l) (a .word .now) (c .before .if1 .taken)
+
+read-word-requires : tie.Need-read-word-requires
+read-word-requires c κs = search needs
+
+with-field-requires : tie.Need-with-field-requires
+with-field-requires c κs = search needs
+
+returns-2 : tie.Need-returns-2
+returns-2 c =
+    let a = c .before .before .before .before .before .before .before .before .args in
+    let w = c .before .before .before .before .before .read-word in
+    feed-first (a .l) (a .word .now) (c .before .before .before .with-field .result) (c .before .before .before .before .before .before .if1 .left) (c .before .if2 .taken)
+    (c .before .before .before .with-field .ensures ∙ ap (withFieldOf (a .l .fields .n) (a .l .fields)) (w .ensures))
+
+with-entry-requires : tie.Need-with-entry-requires
+with-entry-requires c κs = search needs
+
+returns-3 : tie.Need-returns-3
+returns-3 c =
+    let a = c .before .before .before .before .before .before .before .before .before .args in
+    let w = c .before .before .before .before .before .before .read-word in
+    feed-next (a .l) (a .word .now) (c .before .before .before .before .with-field .result) (c .with-entry .result) (c .before .before .before .before .before .before .before .if1 .left) (c .before .before .if2 .left)
+    (c .before .before .before .before .with-field .ensures ∙ ap (withFieldOf (a .l .fields .n) (a .l .fields)) (w .ensures))
+    (c .with-entry .ensures ∙ ap (λ (x : Reading). withEntryOf (a .l .reply) (entryFrom (saysDouble (x .double)) (x .name))) (w .ensures))
+
+pub feed-spec : {M : Type 1} → statement M
+feed-spec = tie.close (tie.spec spoiled-requires returns read-word-requires with-field-requires returns-2 with-entry-requires returns-3)

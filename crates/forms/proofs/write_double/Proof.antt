@@ -1,0 +1,22 @@
+-- `forms::write_double` meets its contract. Assumes nothing.
+use mathlib.Core.Path.{_∙_}
+use Rattle.forms.proofs.Numbers.{in-16}
+use borrow.Author.Needs.{needs}
+use Rattle.forms.proofs.write_double.Statement.{statement}
+use Rattle.forms.proofs.write_double.Tie as tie
+
+pattern-requires : tie.Need-pattern-requires
+pattern-requires c κs = search needs
+
+slice-aggregate-spell : tie.Need-slice-aggregate-spell
+slice-aggregate-spell c = search needs
+
+spell-requires : tie.Need-spell-requires
+spell-requires c κs = search needs
+
+returns : tie.Need-returns
+returns c = c .before .spell .ensures ∙ in-16 (c .before .before .before .pattern .result) (c .before .before .before .before .args .x) (c .before .before .before .pattern .ensures)
+
+pub write-double-spec : {M : Type 1} → statement M
+write-double-spec =
+    tie.close (tie.spec pattern-requires slice-aggregate-spell spell-requires returns)

@@ -1,0 +1,28 @@
+-- `texts::put_end` meets its contract. Assumes nothing.
+use borrow.Author.Needs.{needs}
+use Rattle.texts.specs.Writing.{then, as-text, same-room}
+use Rattle.texts.specs.Laws.{led-end}
+use Rattle.texts.specs.Pieces.{endText}
+use Rattle.texts.proofs.put_end.Statement.{statement}
+use Rattle.texts.proofs.put_end.Tie as tie
+
+put-byte-requires : tie.Need-put-byte-requires
+put-byte-requires c κs = search needs
+
+put-warnings-requires : tie.Need-put-warnings-requires
+put-warnings-requires c κs = search needs
+
+put-byte-requires-2 : tie.Need-put-byte-requires-2
+put-byte-requires-2 c κs = search needs
+
+same-length : tie.Need-same-length
+same-length c = same-room (then (c .before .before .before .before .before .before .before .before .before .before .put-byte .ensures) (then (c .before .before .before .before .before .before .put-warnings .ensures) (c .before .before .put-byte2 .ensures)))
+
+returns : tie.Need-returns
+unfolding endText
+returns c = as-text (then (c .before .before .before .before .before .before .before .before .before .before .put-byte .ensures) (then (c .before .before .before .before .before .before .put-warnings .ensures) (c .before .before .put-byte2 .ensures))) (led-end _ _)
+
+pub put-end-spec : {M : Type 1} → statement M
+put-end-spec =
+    tie.close
+    (tie.spec put-byte-requires put-warnings-requires put-byte-requires-2 same-length returns)

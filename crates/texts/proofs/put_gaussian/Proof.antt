@@ -1,0 +1,49 @@
+-- `texts::put_gaussian` meets its contract. Assumes nothing.
+use borrow.Author.Needs.{needs}
+use Rattle.texts.specs.Writing.{then, as-text, same-room}
+use Rattle.texts.specs.Laws.{in-brackets}
+use Rattle.texts.specs.Texts.{gaussianText}
+use Rattle.texts.proofs.put_gaussian.Statement.{statement}
+use Rattle.texts.proofs.put_gaussian.Tie as tie
+
+put-byte-requires : tie.Need-put-byte-requires
+put-byte-requires c κs = search needs
+
+put-double-requires : tie.Need-put-double-requires
+put-double-requires c κs = search needs
+
+led-double-requires : tie.Need-led-double-requires
+led-double-requires c κs = search needs
+
+led-double-requires-2 : tie.Need-led-double-requires-2
+led-double-requires-2 c κs = search needs
+
+led-double-requires-3 : tie.Need-led-double-requires-3
+led-double-requires-3 c κs = search needs
+
+led-double-requires-4 : tie.Need-led-double-requires-4
+led-double-requires-4 c κs = search needs
+
+put-byte-requires-2 : tie.Need-put-byte-requires-2
+put-byte-requires-2 c κs = search needs
+
+same-length : tie.Need-same-length
+same-length c = same-room (then (c .before .before .before .before .before .before .before .before .before .before .before .before .before .before .before .before .before .before .before .before .before .before .before .before .before .before .put-byte .ensures) (then (c .before .before .before .before .before .before .before .before .before .before .before .before .before .before .before .before .before .before .before .before .before .before .put-double .ensures) (then (c .before .before .before .before .before .before .before .before .before .before .before .before .before .before .before .before .before .before .led-double .ensures) (then (c .before .before .before .before .before .before .before .before .before .before .before .before .before .before .led-double2 .ensures) (then (c .before .before .before .before .before .before .before .before .before .before .led-double3 .ensures) (then (c .before .before .before .before .before .before .led-double4 .ensures) (c .before .before .put-byte2 .ensures)))))))
+
+returns : tie.Need-returns
+unfolding gaussianText
+returns c = as-text (then (c .before .before .before .before .before .before .before .before .before .before .before .before .before .before .before .before .before .before .before .before .before .before .before .before .before .before .put-byte .ensures) (then (c .before .before .before .before .before .before .before .before .before .before .before .before .before .before .before .before .before .before .before .before .before .before .put-double .ensures) (then (c .before .before .before .before .before .before .before .before .before .before .before .before .before .before .before .before .before .before .led-double .ensures) (then (c .before .before .before .before .before .before .before .before .before .before .before .before .before .before .led-double2 .ensures) (then (c .before .before .before .before .before .before .before .before .before .before .led-double3 .ensures) (then (c .before .before .before .before .before .before .led-double4 .ensures) (c .before .before .put-byte2 .ensures))))))) (in-brackets _)
+
+pub put-gaussian-spec : {M : Type 1} → statement M
+put-gaussian-spec =
+    tie.close
+    (tie.spec
+    put-byte-requires
+    put-double-requires
+    led-double-requires
+    led-double-requires-2
+    led-double-requires-3
+    led-double-requires-4
+    put-byte-requires-2
+    same-length
+    returns)

@@ -1,0 +1,41 @@
+-- `texts::put_middle` meets its contract. Assumes nothing.
+use borrow.Author.Needs.{needs}
+use Rattle.texts.specs.Writing.{then, as-text, same-room}
+use Rattle.texts.specs.Laws.{led-end}
+use Rattle.texts.specs.Pieces.{middleText}
+use Rattle.texts.proofs.put_middle.Statement.{statement}
+use Rattle.texts.proofs.put_middle.Tie as tie
+
+put-byte-requires : tie.Need-put-byte-requires
+put-byte-requires c κs = search needs
+
+put-diagnostics-requires : tie.Need-put-diagnostics-requires
+put-diagnostics-requires c κs = search needs
+
+put-byte-requires-2 : tie.Need-put-byte-requires-2
+put-byte-requires-2 c κs = search needs
+
+put-approximation-requires : tie.Need-put-approximation-requires
+put-approximation-requires c κs = search needs
+
+put-byte-requires-3 : tie.Need-put-byte-requires-3
+put-byte-requires-3 c κs = search needs
+
+same-length : tie.Need-same-length
+same-length c = same-room (then (c .before .before .before .before .before .before .before .before .before .before .before .before .before .before .before .before .before .before .put-byte .ensures) (then (c .before .before .before .before .before .before .before .before .before .before .before .before .before .before .put-diagnostics .ensures) (then (c .before .before .before .before .before .before .before .before .before .before .put-byte2 .ensures) (then (c .before .before .before .before .before .before .put-approximation .ensures) (c .before .before .put-byte3 .ensures)))))
+
+returns : tie.Need-returns
+unfolding middleText
+returns c = as-text (then (c .before .before .before .before .before .before .before .before .before .before .before .before .before .before .before .before .before .before .put-byte .ensures) (then (c .before .before .before .before .before .before .before .before .before .before .before .before .before .before .put-diagnostics .ensures) (then (c .before .before .before .before .before .before .before .before .before .before .put-byte2 .ensures) (then (c .before .before .before .before .before .before .put-approximation .ensures) (c .before .before .put-byte3 .ensures))))) (led-end _ _)
+
+pub put-middle-spec : {M : Type 1} → statement M
+put-middle-spec =
+    tie.close
+    (tie.spec
+    put-byte-requires
+    put-diagnostics-requires
+    put-byte-requires-2
+    put-approximation-requires
+    put-byte-requires-3
+    same-length
+    returns)

@@ -1,0 +1,46 @@
+-- `texts::put_number` meets its contract. Assumes nothing.
+use borrow.Author.Needs.{needs}
+use Rattle.texts.specs.Writing.{as-text, same-room}
+use Rattle.texts.proofs.put_number.Statement.{statement}
+use Rattle.texts.proofs.put_number.Tie as tie
+
+enum-told : tie.Need-enum-told
+enum-told c = search needs
+
+slice-aggregate-put-bytes : tie.Need-slice-aggregate-put-bytes
+slice-aggregate-put-bytes c = search needs
+
+put-bytes-requires : tie.Need-put-bytes-requires
+put-bytes-requires c κs = search needs
+
+enum-known-n : tie.Need-enum-known-n
+enum-known-n c = search needs
+
+put-double-requires : tie.Need-put-double-requires
+put-double-requires c κs = search needs
+
+same-length : tie.Need-same-length
+same-length c = same-room (c .before .before .put-bytes .ensures)
+
+returns : tie.Need-returns
+returns c = as-text (c .before .before .put-bytes .ensures) (simp (c .before .before .before .before .before .enum-told .given .1))
+
+same-length-2 : tie.Need-same-length-2
+same-length-2 c = same-room (c .before .before .put-double .ensures)
+
+returns-2 : tie.Need-returns-2
+returns-2 c = as-text (c .before .before .put-double .ensures) (simp (c .before .before .before .before .before .n .given .1))
+
+pub put-number-spec : {M : Type 1} → statement M
+put-number-spec =
+    tie.close
+    (tie.spec
+    enum-told
+    slice-aggregate-put-bytes
+    put-bytes-requires
+    enum-known-n
+    put-double-requires
+    same-length
+    returns
+    same-length-2
+    returns-2)

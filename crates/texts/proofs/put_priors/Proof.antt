@@ -1,0 +1,41 @@
+-- `texts::put_priors` meets its contract. Assumes nothing.
+use borrow.Author.Needs.{needs}
+use Rattle.texts.specs.Writing.{then, as-text, same-room}
+use Rattle.texts.specs.Laws.{in-brackets}
+use Rattle.texts.specs.Texts.{priorsText}
+use Rattle.texts.proofs.put_priors.Statement.{statement}
+use Rattle.texts.proofs.put_priors.Tie as tie
+
+put-byte-requires : tie.Need-put-byte-requires
+put-byte-requires c κs = search needs
+
+put-prior-requires : tie.Need-put-prior-requires
+put-prior-requires c κs = search needs
+
+put-byte-requires-2 : tie.Need-put-byte-requires-2
+put-byte-requires-2 c κs = search needs
+
+put-prior-requires-2 : tie.Need-put-prior-requires-2
+put-prior-requires-2 c κs = search needs
+
+put-byte-requires-3 : tie.Need-put-byte-requires-3
+put-byte-requires-3 c κs = search needs
+
+same-length : tie.Need-same-length
+same-length c = same-room (then (c .before .before .before .before .before .before .before .before .before .before .before .before .before .before .before .before .before .before .put-byte .ensures) (then (c .before .before .before .before .before .before .before .before .before .before .before .before .before .before .put-prior .ensures) (then (c .before .before .before .before .before .before .before .before .before .before .put-byte2 .ensures) (then (c .before .before .before .before .before .before .put-prior2 .ensures) (c .before .before .put-byte3 .ensures)))))
+
+returns : tie.Need-returns
+unfolding priorsText
+returns c = as-text (then (c .before .before .before .before .before .before .before .before .before .before .before .before .before .before .before .before .before .before .put-byte .ensures) (then (c .before .before .before .before .before .before .before .before .before .before .before .before .before .before .put-prior .ensures) (then (c .before .before .before .before .before .before .before .before .before .before .put-byte2 .ensures) (then (c .before .before .before .before .before .before .put-prior2 .ensures) (c .before .before .put-byte3 .ensures))))) (in-brackets _)
+
+pub put-priors-spec : {M : Type 1} → statement M
+put-priors-spec =
+    tie.close
+    (tie.spec
+    put-byte-requires
+    put-prior-requires
+    put-byte-requires-2
+    put-prior-requires-2
+    put-byte-requires-3
+    same-length
+    returns)

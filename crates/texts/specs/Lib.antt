@@ -1,0 +1,7 @@
+-- Definitions that the contracts of the crate `texts` cite, written from document 01, "A report written out", and from the line protocol.
+pub mod Writing
+pub mod Texts
+pub mod Pieces
+pub mod Laws
+pub mod Lengths
+pub mod Examples

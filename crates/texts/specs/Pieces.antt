@@ -1,0 +1,127 @@
+-- The parts of a report between its lists, by the values of the code; and how a list is written item by item.
+use Prim.Native.Nat.{ℕ, zero, suc}
+use mathlib.Core.Bool.{Bool, false, _||_, cond}
+use mathlib.Core.List.{List, [], _∷_, _++_}
+use Rattle.interval.specs.Interval.{says}
+use Rattle.definition.specs.Meaning.{approximationSays}
+use Rattle.definition.specs.Summary.{Diagnostics}
+use Rattle.definition.specs.declared.WeightedTruingObservationResultV1.{WeightedTruingObservationResultV1}
+use Rattle.summary.specs.Summary.{diagnosticsSays}
+use Rattle.warnings.specs.Warnings.{codesOf}
+use Rattle.warnings.specs.declared.Warnings.{Warnings}
+use Rattle.report.specs.declared.Baseline.{Baseline}
+use Rattle.report.specs.declared.Baseline.the-variants.{Absent, Given}
+use Rattle.report.specs.declared.TruingBaselineV1.{TruingBaselineV1}
+use Rattle.report.specs.declared.UncertaintyTruingReportV1.{UncertaintyTruingReportV1}
+use Rattle.forms.specs.Numbers.{doubleText, countText}
+use Rattle.forms.specs.Words.{bytes}
+use Rattle.texts.specs.Writing.{Text}
+use Rattle.texts.specs.Texts.{
+  led,
+  joined,
+  bracketed,
+  orNone,
+  truthText,
+  numberText,
+  criterionName,
+  priorsText,
+  resultsText,
+  diagnosticsText,
+  approximationText,
+  warningsText,
+}
+
+-- the blank before the i-th item of a list: the first has none
+abbrev pub before : ℕ → Text
+before zero = []
+before (suc i) = bytes " "
+
+-- ---- the parts of a report
+
+-- from the start to the list of observations
+unfoldable pub headText : UncertaintyTruingReportV1 → Text
+headText r =
+    bytes "(" ++
+    joined
+    (bytes "report" ∷ countText (r .«schema_version») ∷ doubleText (r .«map_muzzle_velocity_fps») ∷ doubleText (r .«map_ballistic_coefficient») ∷
+    countText (r .iterations) ∷ truthText (r .converged) ∷ priorsText (r .priors) ∷ [])
+    ++ bytes " "
+
+-- the baseline up to its list of observations, the list if there is a baseline, and what follows it
+unfoldable pub givenHead : TruingBaselineV1 → Text
+givenHead b =
+    bytes " (" ++ joined (doubleText (b .«muzzle_velocity_fps») ∷ doubleText (b .«ballistic_coefficient») ∷ doubleText (b .«chi_square») ∷ []) ++ bytes " "
+
+unfoldable pub baselineHead : Baseline → Text
+baselineHead Absent = bytes " none"
+baselineHead (Given b) = givenHead b
+
+unfoldable pub baselineList : Baseline → List WeightedTruingObservationResultV1 → Text
+baselineList Absent results = []
+baselineList (Given b) results = resultsText results
+
+unfoldable pub baselineEnd : Baseline → Text
+baselineEnd Absent = []
+baselineEnd (Given b) = bytes ")"
+
+-- from the baseline to the list of bands
+unfoldable pub middleText : UncertaintyTruingReportV1 → Text
+middleText r = led (diagnosticsText (diagnosticsSays (r .diagnostics)) ∷ approximationText (approximationSays (r .approximation)) ∷ []) ++ bytes " "
+
+-- from the list of bands to the end
+unfoldable pub endText : UncertaintyTruingReportV1 → Text
+endText r = led (warningsText (codesOf (r .warnings)) ∷ []) ++ bytes ")"
+
+-- ---- halves of the diagnostics
+
+-- up to the reduced chi-square, and from there
+unfoldable pub sumsText : Diagnostics → Text
+sumsText d =
+    bytes "(" ++
+    joined
+    (doubleText (d .chiSquare) ∷ doubleText (d .priorPenalty) ∷ doubleText (d .penalizedChiSquare) ∷
+    numberText (d .effectiveParameterCount) ∷ numberText (d .effectiveDegreesOfFreedom) ∷ numberText (d .reduced) ∷ [])
+    ++ bytes " "
+
+unfoldable pub pollsText : Diagnostics → Text
+pollsText d =
+    joined
+    (doubleText (d .bcSensitivityRatio) ∷ doubleText (d .dataConditionNumber) ∷ doubleText (d .gradientNorm) ∷
+    orNone criterionName (d .convergenceCriterion) ∷ numberText (d .objectivePollRadius) ∷ numberText (d .objectivePollImprovement) ∷
+    countText (d .objectivePollEvaluations) ∷ [])
+    ++ bytes ")"
+
+-- ---- the warnings
+
+-- a warning that stands where `on` says so, after a blank where one stands before it
+unfoldable pub markText : Bool → Bool → Text → Text
+markText isLed on name = cond on (cond isLed (bytes " ") [] ++ bracketed (name ∷ [])) []
+
+-- the first five of the ten, and the last five
+unfoldable pub firstMarks : Warnings → Text
+firstMarks w =
+    let a = w .«optimizer_did_not_converge» in
+    let b = a || w .«objective_mesh_convergence» in
+    let c = b || w .«weak_bc_sensitivity» in
+    let d = c || w .«ill_conditioned_data» in
+    markText false a (bytes "OptimizerDidNotConverge") ++
+    (markText a (w .«objective_mesh_convergence») (bytes "ObjectiveMeshConvergence") ++
+    (markText b (w .«weak_bc_sensitivity») (bytes "WeakBcSensitivity") ++
+    (markText c (w .«ill_conditioned_data») (bytes "IllConditionedData") ++
+    markText d (w .«mv_prior_dominated») (bytes "MvPriorDominated"))))
+
+unfoldable pub lastMarks : Bool → Warnings → Text
+lastMarks isLed w =
+    let a = isLed || w .«bc_prior_dominated» in
+    let b = a || w .«gaussian_approximation_unavailable» in
+    let c = b || w .«interval_crosses_fit_bounds» in
+    let d = c || w .«low_effective_degrees_of_freedom» in
+    markText isLed (w .«bc_prior_dominated») (bytes "BcPriorDominated") ++
+    (markText a (w .«gaussian_approximation_unavailable») (bytes "GaussianApproximationUnavailable") ++
+    (markText b (w .«interval_crosses_fit_bounds») (bytes "IntervalCrossesFitBounds") ++
+    (markText c (w .«low_effective_degrees_of_freedom») (bytes "LowEffectiveDegreesOfFreedom") ++
+    markText d (w .«prediction_outside_observed_domain») (bytes "PredictionOutsideObservedDomain"))))
+
+-- whether one of the first five stands
+unfoldable pub anyFirst : Warnings → Bool
+anyFirst w = (((w .«optimizer_did_not_converge» || w .«objective_mesh_convergence») || w .«weak_bc_sensitivity») || w .«ill_conditioned_data») || w .«mv_prior_dominated»
