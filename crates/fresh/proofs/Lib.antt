@@ -1,0 +1,6 @@
+pub mod Lists
+pub mod Shots
+pub mod Rows
+pub mod Runs
+pub mod Edits
+pub mod Reports
