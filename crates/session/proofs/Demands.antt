@@ -20,7 +20,7 @@ use Rattle.fitting.proofs.Laws.{bind-assoc}
 use Rattle.likelihood.specs.Arrays.{entriesOf}
 use Rattle.session.specs.Meaning.{State, asking, standing, over, after, state, Said, question, refusal, said, head, ofShots, moreOf, counted, Sizes, sizesOf, sizesFor, wants, rightLength, Stands, Declines, either, entriesTaken, refusalTaken, Opened, Replied, PointRefused}
 use Rattle.session.specs.Reading.{reportIn, Shows, placeIn, baselineResults}
-use Rattle.session.specs.Demands.{Call, reply, refusePoint, Made, Meets, Chained, resume, replyOf, fits, Taking, declines, takes, taking, noted, due, stance, nowTaken, Throughout, checked, OpensProperly, EndsProperly, Demand1, reportFrom, ReadsAs, OpensAsDefined, AsDefined, Demand2}
+use Rattle.session.specs.Demands.{Call, reply, refusePoint, Made, Meets, Chained, resume, replyOf, fits, Taking, declines, takes, taking, noted, due, stance, nowTaken, Throughout, checked, countedSaid, OpensProperly, EndsProperly, Demand1, reportFrom, ReadsAs, OpensAsDefined, AsDefined, Demand2}
 use Rattle.session.specs.declared.Session.{Session}
 use Rattle.session.specs.declared.Answer.{Answer}
 
@@ -67,6 +67,12 @@ counted-plus n (done c) h = refl
 counted-plus n (refuse m i) h = refl
 counted-plus n (ask p w k) h = ap (λ (b : Bool). cond b (suc n) n) (lt-ltb n 0xffff_ffff_ffff_ffff (omega arith))
 
+-- the count by what is said
+said-plus : (n : ℕ) (t : Run Finished) → plus n t ≡ countedSaid n (head t)
+said-plus n (done c) = refl
+said-plus n (refuse m i) = refl
+said-plus n (ask p w k) = refl
+
 -- ---- the report
 
 report-after : (t : Run Finished) → reportIn (after none t) ≡ reportFrom t
@@ -112,6 +118,7 @@ module _ (o : Opening) (rs : List Reply) (s : Session) (h : Holds o rs s) where
         holds = subst (λ (l : List Reply). Holds o l (c .answer .session)) (sym rest) (subst (Holds o rs) (sym same) h);
         proper = record {
           declined = λ m f. (number ∙ ap (λ (x : ℕ). refusal x 0) (numbers (sym e ∙ f)), same);
+          counted = ap (λ (x : Session). x .asked) same ∙ sym (ap (countedSaid (s .asked)) number);
           limited = limited rs (c .answer .session .asked) asked;
         };
         defined = record {
@@ -138,7 +145,11 @@ module _ (o : Opening) (rs : List Reply) (s : Session) (h : Holds o rs s) where
       ∙ sym (put-more (whole o) rs r p w k at) ∙ ap (put (whole o)) (sym rest) in
       record {
         holds = record { leads = d .leads ∙ ap (after none) (sym goes); sized = d .sized ∙ h .sized; counts = counts };
-        proper = record { declined = λ n f. absurd (apart (sym e ∙ f)); limited = limited (nowTaken o rs (c .call)) (c .answer .session .asked) counts };
+        proper = record {
+          declined = λ n f. absurd (apart (sym e ∙ f));
+          counted = d .counts ∙ counted-plus (s .asked) (k r) (limited rs (s .asked) (h .counts)) ∙ said-plus (s .asked) (k r) ∙ ap (countedSaid (s .asked)) (sym (d .says));
+          limited = limited (nowTaken o rs (c .call)) (c .answer .session .asked) counts;
+        };
         defined = record {
           says = d .says ∙ ap head (sym goes) ∙ ap (λ (t : Taking). due t (resume (whole o) (nowTaken o rs (c .call)))) (sym e);
           counts = counts;

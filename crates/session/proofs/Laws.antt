@@ -5,7 +5,7 @@ use mathlib.Core.Bool.{Bool, true, false, cond, not, _&&_}
 use mathlib.Core.List.{List, map}
 use mathlib.Core.Option.{Option, none, some}
 use native.Mathlib.Omega.{arith}
-use borrow.Author.Tests.{lt-ltb, le-leb}
+use borrow.Author.Tests.{lt-ltb, not-true, not-false}
 use lib.Dec.{T, leb, ltb, eqb, leb→le, le→leb}
 use lib.Ieee.{Float}
 use lib.Ieee.Fits.{and-i, and-l, and-r}
@@ -40,14 +40,6 @@ use Rattle.session.specs.declared.Answer.{Answer}
 use Rattle.session.specs.declared.Session.{Session}
 use Rattle.session.specs.declared.Distances.{Distances}
 use Rattle.session.specs.declared.Distances.the-variants as Distances
-
-not-true : (b : Bool) → not b ≡ true → b ≡ false
-not-true true e = sym e
-not-true false e = refl
-
-not-false : (b : Bool) → not b ≡ false → b ≡ true
-not-false true e = refl
-not-false false e = sym e
 
 -- ---- runs that are equal, and sessions within their limits
 

@@ -137,7 +137,7 @@ shots-measured ranges drops sigmas h = go (shortestOf (length ranges) (length dr
 
 -- ---- the requested distances
 
-and-both : (a b : Bool) → a && b ≡ true → (a ≡ true) × (b ≡ true)
+pub and-both : (a b : Bool) → a && b ≡ true → (a ≡ true) × (b ≡ true)
 and-both true b e = (refl, e)
 and-both false b e = let z : _≡_ {A = ℕ} 0 1 = cc in absurd (omega arith)
 

@@ -48,6 +48,7 @@ use Rattle.session.specs.declared.Shown.{Shown}
 use Rattle.session.specs.declared.Shown.the-variants as Shown
 use Rattle.session.proofs.Laws.{state-within}
 use Rattle.session.proofs.Steps.{shots-within, wanted-within}
+use Rattle.session.proofs.OpenLaws.{and-both}
 use Rattle.session.proofs.CallLaws.{true-is, state-at, state-beyond, state-used, at-evaluation, at-bands, at-baseline, at-start, at-trial, at-look, objective-asks}
 
 -- ---- where a report stands
@@ -76,10 +77,6 @@ module _ (s : Session) where
       by true w f = open-at (s .phase) (true-is w) refl f
       by false w f = ap reportIn (state-beyond s w)
 
-  both : (a b : Bool) → a && b ≡ true → (a ≡ true) × (b ≡ true)
-  both true b e = (refl, e)
-  both false b e = let z : _≡_ {A = ℕ} 0 1 = cc in absurd (omega arith)
-
   last-phase : (x : Phase) → isEnded x ≡ true → x ≡ Ended
   last-phase Over e = cc
   last-phase Start e = cc
@@ -91,10 +88,10 @@ module _ (s : Session) where
   last-phase Ended e = refl
 
   pub standing-within : standsIn s ≡ true → T (withinOf (s .body))
-  standing-within e = true-is (both (withinOf (s .body)) (isEnded (s .phase)) e .0)
+  standing-within e = true-is (and-both (withinOf (s .body)) (isEnded (s .phase)) e .0)
 
   pub is-standing : standsIn s ≡ true → state s ≡ standing (finishedOf (s .body))
-  is-standing e = state-at s Ended (standing-within e) (last-phase (s .phase) (both (withinOf (s .body)) (isEnded (s .phase)) e .1))
+  is-standing e = state-at s Ended (standing-within e) (last-phase (s .phase) (and-both (withinOf (s .body)) (isEnded (s .phase)) e .1))
 
   pub report-stands : standsIn s ≡ true → reportIn (state s) ≡ some (reportOf (finishedOf (s .body)))
   report-stands e = ap reportIn (is-standing e)

@@ -1,6 +1,6 @@
 -- Demands 1 and 2 over any list of calls on a session just opened: replies of entries and refusals of the point, whether they were due or not.
 -- Stated over what a host sees: the answers, and what the calls that read a session give. Theorems `demand-1` and `demand-2` stand in proofs/Demands.antt.
-use Prim.Native.Nat.{ℕ, _≤_}
+use Prim.Native.Nat.{ℕ, suc, _≤_}
 use mathlib.Core.Path.{_≡_}
 use mathlib.Core.Bool.{Bool, true, cond}
 use mathlib.Core.List.{List, [], _∷_, _++_}
@@ -12,7 +12,7 @@ use Rattle.definition.specs.Summary.{Finished, Report, reportOf}
 use Rattle.definition.specs.Whole.{whole, checkedMeasured, checkedRequested}
 use Rattle.definition.specs.Laws.{put}
 use Rattle.likelihood.specs.Arrays.{entriesOf}
-use Rattle.session.specs.Meaning.{Said, question, refusal, said, head, ofShots, Sizes, sizesFor, wants, rightLength, Opened, Replied, PointRefused}
+use Rattle.session.specs.Meaning.{Said, question, report, refusal, said, head, ofShots, Sizes, sizesFor, wants, rightLength, Opened, Replied, PointRefused}
 use Rattle.report.specs.Places.{resultSays, bandAtSays}
 use Rattle.report.specs.declared.ResultAt.{ResultAt}
 use Rattle.report.specs.declared.BandAt.{BandAt}
@@ -107,9 +107,17 @@ pub record OpensProperly (o : Opening) (a : Answer) : Type 0 where
   pub faulty : (n i : ℕ) → checked o ≡ refuse n i → (said (a .step) ≡ refusal n i) × (a .session .asked ≡ 0)
   pub sound : checked o ≡ done tt → (said (a .step) ≡ question (o .measured .entered .mv) (o .measured .entered .bc) ofShots) × (a .session .asked ≡ 1)
 
--- a call that was not due gets its number and changes nothing; and the count of questions stays within its limit
+-- the count of questions, with what is said now
+abbrev pub countedSaid : ℕ → Said → ℕ
+countedSaid n (question mv bc list) = suc n
+countedSaid n report = n
+countedSaid n (refusal m i) = n
+
+-- a call that was not due gets its number and changes nothing; the count rises by one exactly where the answer is a question, and stays within its limit, so that no run
+-- puts more questions
 pub record EndsProperly (o : Opening) (rs : List Reply) (s : Session) (c : Made) : Type 0 where
   pub declined : (n : ℕ) → stance o rs (c .call) ≡ declines n → (said (c .answer .step) ≡ refusal n 0) × (c .answer .session ≡ s)
+  pub counted : c .answer .session .asked ≡ countedSaid (s .asked) (said (c .answer .step))
   pub limited : c .answer .session .asked ≤ 4546
 
 -- Theorem `demand-1`.
