@@ -196,7 +196,7 @@ pub fn bc_minus(p: Point) -> Point
 }
 
 // 0 in place of a missing drop.
-fn drop_or_0(drop: f64, missing: bool) -> f64
+pub fn drop_or_0(drop: f64, missing: bool) -> f64
     ensures { λ r. ⌜ r ≡ dropOr0 (entryOf drop missing) ⌝ }
 {
     if missing {
@@ -206,7 +206,7 @@ fn drop_or_0(drop: f64, missing: bool) -> f64
 }
 
 // (plus - minus) / (2 * step)
-fn slope_of(step: f64, plus: f64, minus: f64) -> f64
+pub fn slope_of(step: f64, plus: f64, minus: f64) -> f64
     ensures { λ r. ⌜ r ≡ slope step plus minus ⌝ }
 {
     (plus - minus) / (2.0 * step)

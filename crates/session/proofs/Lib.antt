@@ -4,4 +4,4 @@ pub mod Steps
 pub mod OpenLaws
 pub mod CallLaws
 pub mod ReadLaws
-pub mod Demands
+pub mod ChangeLaws

@@ -160,7 +160,7 @@ positive-above x h = go (lt zero64 x) refl
     go false e = let l = at-least zero64 x refl (finite-number x (parts .0)) e in let n = not-true (le x zero64) (parts .1) in cc
 
 -- what is stored for a sound sigma stands for it
-stored-sigma : (range x : Float) (g : Bool) → faultyRequested (wantedAt range x g) ≡ false → sigmaOf (sigmaOr0 x g) ≡ futureOf x g
+pub stored-sigma : (range x : Float) (g : Bool) → faultyRequested (wantedAt range x g) ≡ false → sigmaOf (sigmaOr0 x g) ≡ futureOf x g
 unfolding soundRequestedOf lt ofBits
 stored-sigma range x false h = refl
 stored-sigma range x true h =

@@ -160,6 +160,7 @@ module _ (w : Wanted) (t : Table) (r : length (w .ranges) ≡ 64) (g : length (w
 
   pub counts-bands : BandsCount w t (w .n)
   counts-bands = record {
+    places = refl;
     requested = wanted;
     bands = λ a h. let x = wanted h in zip-length (bandOf a) (requestedOf w) (rowsOf (rowsAt (w .n) t)) (rows h ∙ sym x) ∙ x;
   }

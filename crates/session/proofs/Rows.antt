@@ -134,11 +134,8 @@ stencil-asks (suc (suc (suc (suc k)))) p w r = refl
 
 -- ---- what is left after a reply, for any list and any continuation
 
-module _ (k : ℕ) (p : Point) (w : Which) (r : likelihood.Rows) (number : ℕ) (f : likelihood.Rows → Run Finished) where
-  abbrev pub left : Run Finished
-  left = bind (bind (stencilNext k p w r) (likelihood.complete number)) f
-
-  next-of : k < 4 → stencilNext k p w r ≡ stencil (suc k) p w r
+module _ (k : ℕ) (p : Point) (w : Which) (r : likelihood.Rows) where
+  pub next-of : k < 4 → stencilNext k p w r ≡ stencil (suc k) p w r
   next-of h = go k h
     where
       go : (j : ℕ) → j < 4 → stencilNext j p w r ≡ stencil (suc j) p w r
@@ -148,10 +145,7 @@ module _ (k : ℕ) (p : Point) (w : Which) (r : likelihood.Rows) (number : ℕ) 
       go (suc (suc (suc zero))) h = refl
       go (suc (suc (suc (suc j)))) h = absurd (omega arith)
 
-  pub left-more : k < 4 → left ≡ bind (bind (stencil (suc k) p w r) (likelihood.complete number)) f
-  left-more h = ap (λ (t : Run likelihood.Rows). bind (bind t (likelihood.complete number)) f) (next-of h)
-
-  last-of : 4 ≤ k → stencilNext k p w r ≡ done r
+  pub last-of : 4 ≤ k → stencilNext k p w r ≡ done r
   last-of h = go k h
     where
       go : (j : ℕ) → 4 ≤ j → stencilNext j p w r ≡ done r
@@ -161,8 +155,15 @@ module _ (k : ℕ) (p : Point) (w : Which) (r : likelihood.Rows) (number : ℕ) 
       go (suc (suc (suc zero))) h = absurd (omega arith)
       go (suc (suc (suc (suc j)))) h = refl
 
+module _ (k : ℕ) (p : Point) (w : Which) (r : likelihood.Rows) (number : ℕ) (f : likelihood.Rows → Run Finished) where
+  abbrev pub left : Run Finished
+  left = bind (bind (stencilNext k p w r) (likelihood.complete number)) f
+
+  pub left-more : k < 4 → left ≡ bind (bind (stencil (suc k) p w r) (likelihood.complete number)) f
+  left-more h = ap (λ (t : Run likelihood.Rows). bind (bind t (likelihood.complete number)) f) (next-of k p w r h)
+
   left-last : 4 ≤ k → left ≡ bind (likelihood.complete number r) f
-  left-last h = ap (λ (t : Run likelihood.Rows). bind (bind t (likelihood.complete number)) f) (last-of h)
+  left-last h = ap (λ (t : Run likelihood.Rows). bind (bind t (likelihood.complete number)) f) (last-of k p w r h)
 
   complete-gap : (g : ℕ) → r .gap ≡ g → (g ≡ 0 → ⊥) → likelihood.complete number r ≡ refuse number g
   unfolding likelihood.complete

@@ -1,4 +1,4 @@
 pub mod Meaning
 pub mod Opening
 pub mod Reading
-pub mod Demands
+pub mod Changing

@@ -113,5 +113,6 @@ pub record ResultsCount (s : Shots) (predicted drops : List Float) (r : ℕ) : T
 
 -- within the 64 places the count is that of the requested distances, and of their bands
 pub record BandsCount (w : Wanted) (t : Table) (r : ℕ) : Type 0 where
+  pub places : r ≡ w .n
   pub requested : w .n ≤ 64 → length (requestedOf w) ≡ r
   pub bands : (a : Approximation) → w .n ≤ 64 → length (bandsAt a w t) ≡ r

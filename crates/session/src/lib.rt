@@ -2,6 +2,7 @@
 use definition::Evaluation;
 use definition::Number;
 use definition::Point;
+use definition::Row;
 use definition::TruingApproximationV1;
 use definition::TruingPriorsV1;
 use fitting::Moved;
@@ -17,7 +18,7 @@ ghost use mathlib.Core.Path.{_≡_};
 ghost use mathlib.Core.Bool.{_&&_};
 ghost use mathlib.Core.List.{map};
 ghost use mathlib.Core.Option.{none};
-ghost use Prim.Native.Nat.{_≤_, _<_};
+ghost use Prim.Native.Nat.{_≤_, _<_, _-_};
 ghost use lib.Dec.{T, leb};
 ghost use lib.ListN.{length, take};
 ghost use Rattle.definition.specs.Run.{bind, done, entries, readingOf, dropOr0};
@@ -28,9 +29,11 @@ ghost use Rattle.definition.specs.Summary.{isOutside};
 ghost use Rattle.definition.specs.Whole.{soundRequestedOf, faultyRequested, checkedMeasured, checkedRequested};
 ghost use Rattle.likelihood.specs.Arrays.{entriesOf};
 ghost use Rattle.fitting.specs.Meaning.{restOf, withinWait, afterRows, afterTrial, afterLook, startAt};
-ghost use Rattle.session.specs.Meaning.{moreOf, requestedOf, withinOf, rightLength, valueSays, valuedFrom, sumOf, measuredOf, wantedOf, rowsAt, rowsNext, pointAt, HasWanted, bandedAt, fiveAt, fiveBandsAt, putAt, refusedAt, reportedAt, finishedWith, sizesOf, Stands, Declines, Opened, Replied, PointRefused};
+ghost use Rattle.session.specs.Meaning.{moreOf, requestedOf, withinOf, rightLength, valueSays, valuedFrom, sumOf, measuredOf, wantedOf, rowsAt, rowsNext, pointAt, HasWanted, bandedAt, fiveAt, fiveBandsAt, putAt, refusedAt, reportedAt, finishedWith, sizesOf, state, Stands, Declines, Opened, Replied, PointRefused};
 ghost use Rattle.report.specs.Places.{nth, resultSays, bandAtSays};
 ghost use Rattle.report.specs.Report.{baselineSays};
+ghost use Rattle.definition.specs.Whole.{edited, editedNumbers, editedRows, placed};
+ghost use Rattle.session.specs.Changing.{editOf, rangeOf, sigmaIn, sizeAfter, roomy, rowsFrom, fittedIn, fittedSays, Changed};
 ghost use Rattle.session.specs.Reading.{isEnded, standsIn, observationsAt, resultsAt, bandsAt, baselineAt, ResultsCount, BandsCount, ReportRead, ResultRead, BaselineResultRead, BandRead};
 ghost use Rattle.session.specs.Opening.{wantedAt, requestedFrom, measuredFrom, openingOf, checkedSays, placesOf, sigmaOr0, shotsFrom, wantedFrom, Prepared};
 
@@ -273,7 +276,7 @@ fn looked(b: Body, asked: u64, c: Point, value: Value) -> Answer
 // ---- the five questions
 
 // The point of the k-th of the five questions, counted from 0.
-fn stencil_point(p: Point, k: usize) -> Point
+pub fn stencil_point(p: Point, k: usize) -> Point
     ensures { λ r. ⌜ r ≡ pointAt k p ⌝ }
 {
     if k == 0 {
@@ -465,7 +468,7 @@ pub enum Checked {
     Faulty(usize, usize),
 }
 
-fn is_sound_wanted(range: f64, sigma: f64, given: bool) -> bool
+pub fn is_sound_wanted(range: f64, sigma: f64, given: bool) -> bool
     ensures { λ r. ⌜ r ≡ soundRequestedOf (wantedAt range sigma given) ⌝ }
 {
     if given {
@@ -572,7 +575,7 @@ fn filled(s: &[f64]) -> [f64; 64]
 }
 
 // 0 in place of a sigma that is not given.
-fn sigma_or_0(sigma: f64, given: bool) -> f64
+pub fn sigma_or_0(sigma: f64, given: bool) -> f64
     ensures { λ r. ⌜ r ≡ sigmaOr0 sigma given ⌝ }
 {
     if given {
@@ -700,7 +703,7 @@ fn is_within(shots: usize, wanted: usize, left: usize) -> bool
     (shots <= 64) & (wanted <= 64) & (left <= 100)
 }
 
-fn right_length(reply: &[f64], missing: &[bool], n: usize) -> bool
+pub fn right_length(reply: &[f64], missing: &[bool], n: usize) -> bool
     ensures { λ r. ⌜ r ≡ rightLength n (now (reply .entry)) (now (missing .entry)) ⌝ }
 {
     (reply.len() == n) & (missing.len() == n)
@@ -1013,4 +1016,169 @@ pub fn predictive_band(s: Session, i: usize) -> BandAt
     let table = s.body.table;
     let a = approximation_of(g);
     band_of(a, wanted, table, i)
+}
+
+// ---- changing the requested distances of a finished run
+
+// A requested distance put in at a place, taken out of it, or exchanged there; places are counted from 1. A sigma of 0 stands for none.
+pub enum Change {
+    PutIn(usize, f64, f64),
+    TakeOut(usize),
+    Exchange(usize, f64, f64),
+}
+
+// The point of the fit and the number of requested distances, where a finished run stands.
+pub enum Fitted {
+    Unfitted,
+    FittedAt(Point, usize),
+}
+
+pub fn fit_of(s: Session) -> Fitted
+    ensures { λ r. ⌜ fittedSays r ≡ fittedIn (state s) ⌝ }
+{
+    if !is_standing(s) {
+        return Fitted::Unfitted;
+    }
+    let wanted = s.body.wanted;
+    let table = s.body.table;
+    let n = bands_count(wanted, table);
+    let p = s.body.progress.point;
+    Fitted::FittedAt(p, n)
+}
+
+// The place of the list of n to which a place counted from 1 belongs.
+fn index(place: usize) -> usize
+    ensures { λ r. ⌜ r ≡ place - 1 ⌝ }
+{
+    if place == 0 {
+        return 0;
+    }
+    place - 1
+}
+
+// Whether the place is one of a list of n. Putting in also takes the place after the last.
+pub fn is_placed(change: Change, n: usize) -> bool
+    ensures { λ r. ⌜ r ≡ placed (editOf change) n ⌝ }
+{
+    match change {
+        Change::PutIn(i, _range, _sigma) => (1 <= i) & (index(i) <= n),
+        Change::TakeOut(i) => (1 <= i) & (i <= n),
+        Change::Exchange(i, _range, _sigma) => (1 <= i) & (i <= n),
+    }
+}
+
+// Whether the edited list has a place for each of its entries.
+pub fn has_room(change: Change, n: usize) -> bool
+    ensures { λ r. ⌜ r ≡ roomy (editOf change) n ⌝ }
+{
+    match change {
+        Change::PutIn(_i, _range, _sigma) => n < 64,
+        Change::TakeOut(_i) => true,
+        Change::Exchange(_i, _range, _sigma) => true,
+    }
+}
+
+fn size_after(change: Change, n: usize) -> usize
+    requires { ⌜ n ≤ 64 ⌝ }
+    ensures { λ r. ⌜ r ≡ sizeAfter (editOf change) n ⌝ }
+{
+    match change {
+        Change::PutIn(_i, _range, _sigma) => n + 1,
+        Change::TakeOut(_i) => index(n),
+        Change::Exchange(_i, _range, _sigma) => n,
+    }
+}
+
+fn range_of(change: Change) -> f64
+    ensures { λ r. ⌜ r ≡ rangeOf change ⌝ }
+{
+    match change {
+        Change::PutIn(_i, range, _sigma) => range,
+        Change::TakeOut(_i) => 0.0,
+        Change::Exchange(_i, range, _sigma) => range,
+    }
+}
+
+fn sigma_of(change: Change) -> f64
+    ensures { λ r. ⌜ r ≡ sigmaIn change ⌝ }
+{
+    match change {
+        Change::PutIn(_i, _range, sigma) => sigma,
+        Change::TakeOut(_i) => 0.0,
+        Change::Exchange(_i, _range, sigma) => sigma,
+    }
+}
+
+// The first n of an array with x at the place of the change, or without the one there.
+fn changed_places(old: [f64; 64], n: usize, change: Change, x: f64) -> [f64; 64]
+    ensures { λ r. ⌜ (n ≤ 64 → T (placed (editOf change) n) → T (roomy (editOf change) n) → take (sizeAfter (editOf change) n) r ≡ editedNumbers (editOf change) x (take n old)) ⌝ }
+{
+    match change {
+        Change::PutIn(i, _range, _sigma) => places::inserted(old, n, index(i), x),
+        Change::TakeOut(i) => places::removed(old, n, index(i)),
+        Change::Exchange(i, _range, _sigma) => places::exchanged(old, index(i), x),
+    }
+}
+
+fn changed_wanted(w: Wanted, change: Change) -> Wanted
+    requires { ⌜ (w .n ≤ 64) × T (placed (editOf change) (w .n)) × T (roomy (editOf change) (w .n)) ⌝ }
+    ensures { λ r. ⌜ (requestedOf r ≡ edited (editOf change) (requestedOf w)) × (r .n ≡ sizeAfter (editOf change) (w .n)) ⌝ }
+{
+    let n = w.n;
+    let old_ranges = w.ranges;
+    let old_sigmas = w.sigmas;
+    let ranges = changed_places(old_ranges, n, change, range_of(change));
+    let sigmas = changed_places(old_sigmas, n, change, sigma_of(change));
+    let size = size_after(change, n);
+    Wanted {
+        ranges,
+        sigmas,
+        n: size,
+    }
+}
+
+fn changed_table(t: Table, n: usize, change: Change, row: Row) -> Table
+    requires { ⌜ (n ≤ 64) × T (placed (editOf change) n) × T (roomy (editOf change) n) ⌝ }
+    ensures { λ r. ⌜ rowsAt (sizeAfter (editOf change) n) r ≡ editedRows (editOf change) (rowsFrom row) (rowsAt n t) ⌝ }
+{
+    let old_predicted = t.predicted;
+    let old_mv = t.by_mv;
+    let old_bc = t.by_bc;
+    let predicted = changed_places(old_predicted, n, change, row.predicted_drop);
+    let by_mv = changed_places(old_mv, n, change, row.d_drop_d_mv);
+    let by_bc = changed_places(old_bc, n, change, row.d_drop_d_bc);
+    Table {
+        predicted,
+        by_mv,
+        by_bc,
+        gap: 0,
+    }
+}
+
+// The finished run with the change made, the new distance's row in its place. Nothing is asked, and nothing else changes.
+pub fn changed(s: Session, change: Change, row: Row) -> Session
+    ensures { λ r. ⌜ Changed s (editOf change) (rowsFrom row) r ⌝ }
+{
+    if !is_standing(s) {
+        return s;
+    }
+    let b = s.body;
+    let asked = s.asked;
+    let old = b.wanted;
+    let rows = b.table;
+    let n = bands_count(old, rows);
+    if !is_placed(change, n) {
+        return s;
+    }
+    if !has_room(change, n) {
+        return s;
+    }
+    let wanted = changed_wanted(old, change);
+    let table = changed_table(rows, n, change, row);
+    let body = Body { wanted, table, ..b };
+    Session {
+        body,
+        phase: Phase::Ended,
+        asked,
+    }
 }

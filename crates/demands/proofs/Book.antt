@@ -1,0 +1,441 @@
+-- The book and the definition agree at every call of a host whose replies come from one solver: by induction over the calls. Assumes nothing.
+use Prim.Native.Nat.{ℕ}
+use mathlib.Core.Path.{_≡_, refl, sym, ap, _∙_, subst}
+use mathlib.Core.Bool.{Bool, true, false, cond}
+use mathlib.Core.List.{List, [], _∷_, _++_}
+use mathlib.Core.Option.{Option, none, some}
+use native.Mathlib.Omega.{arith}
+use lib.ListN.{length}
+use lib.Ieee.{Float}
+use Rattle.definition.specs.Request.{Requested, Opening}
+use Rattle.definition.specs.Run.{Run, done, refuse, ask, Reply, refused, entries, Which, shots, distances, new}
+use Rattle.definition.specs.Host.{Outcome, ends, refuses, Host, play}
+use Rattle.definition.specs.Summary.{Finished, Report}
+use Rattle.definition.specs.Whole.{whole, Edit, putIn, takeOut, exchange, edited, placed, edit}
+use Rattle.definition.specs.declared.Point.{Point}
+use Rattle.likelihood.specs.Arrays.{entriesOf}
+use Rattle.fresh.specs.Solver.{Solver, replyAt, hostOf, withList, fresh}
+use Rattle.fresh.proofs.Edits.{edit-fresh, list-kept}
+use Rattle.fresh.proofs.Reports.{only-band}
+use Rattle.session.specs.Meaning.{Said, head, kindOf, sizesFor, wants, rightLength}
+use Rattle.demands.specs.Calls.{Call, reply, refusePoint, change, resume, Editing, At, first, rest, keptBy, finishedBy, finishedAt, reportBy, Taking, declines, takes, takingReply, takingRefusal, takingEdit, stance, withReply, withEdit, taken, unlessDeclined, after, due, dueTo}
+use Rattle.demands.specs.Book.{sizeOf, heard, Where, inRun, idle, inEdit, Book, isReport, opened, reports, ruledReply, ruledRefusal, ruledEdit, ruled, standsBy, settled, editHeard, runHeard, replyHeard, callHeard, booked, Question, aboutOf, questionIn, Trail, begun, followed, Replies, Comes, FromSolver, saidBy, reportFrom, Ends, Edits, standing, Holds}
+use Rattle.demands.proofs.Questions.{Only, only-whole, only-edit}
+
+-- ---- in general
+
+apart : {n : ℕ} {A : Type 0} → declines n ≡ takes → A
+apart e = let z : _≡_ {A = ℕ} 0 1 = cc in absurd (omega arith)
+
+not-none : {A B : Type 0} {a : A} → _≡_ {A = Option A} (some a) none → B
+not-none e = let z : _≡_ {A = ℕ} 0 1 = cc in absurd (omega arith)
+
+not-both : {A : Type 0} → _≡_ {A = Bool} true false → A
+not-both e = let z : _≡_ {A = ℕ} 0 1 = cc in absurd (omega arith)
+
+if-takes : (b : Bool) (n : ℕ) → cond b takes (declines n) ≡ takes → b ≡ true
+if-takes true n e = refl
+if-takes false n e = apart e
+
+-- the value of an outcome
+abbrev endOf : Outcome Finished → Option Finished
+endOf (ends c) = some c
+endOf (refuses n i) = none
+
+report-end : (f : Outcome Finished) → reportBy (endOf f) ≡ reportFrom none f
+report-end (ends c) = refl
+report-end (refuses n i) = refl
+
+-- ---- one reply more
+
+pub resume-more : (t : Run Finished) (rs : List Reply) (r : Reply) (p : Point) (w : Which) (k : Reply → Run Finished) → resume t rs ≡ ask p w k → resume t (rs ++ (r ∷ [])) ≡ k r
+resume-more (done c) [] r p w k e = cc
+resume-more (refuse n i) [] r p w k e = cc
+resume-more (ask p′ w′ k′) [] r p w k e = cc
+resume-more (done c) (x ∷ rs) r p w k e = cc
+resume-more (refuse n i) (x ∷ rs) r p w k e = cc
+resume-more (ask p′ w′ k′) (x ∷ rs) r p w k e = resume-more (k′ x) rs r p w k e
+
+module _ (o : Opening) (run : List Reply) where
+  pub rest-more : (last : Option Editing) (r : Reply) (p : Point) (w : Which) (k : Reply → Run Finished)
+      → rest o (record { run = run; last = last }) ≡ ask p w k → rest o (withReply run last r) ≡ k r
+  rest-more none r p w k e = resume-more (whole o) run r p w k e
+  rest-more (some x) r p w k e = resume-more (edit (x .of) (x .made)) (x .replies) r p w k e
+
+  pub kept-more : (last : Option Editing) (r : Reply) → keptBy (withReply run last r .last) ≡ keptBy last
+  kept-more none r = refl
+  kept-more (some x) r = refl
+
+-- ---- the invariant
+
+module _ (σ : Solver) (o : Opening) where
+  -- the host's reply to a question about these distances is the solver's, while the session stands so
+  abbrev Suits : Host → (ℕ → Where) → Which → Type 0
+  Suits h at w = (n : ℕ) (p : Point) → h p w ≡ replyAt σ p (aboutOf o (at n) (kindOf w))
+
+  -- what is left of the run comes to the fresh outcome of the opening's list
+  record RunGoes (kept : Option Finished) (left : Run Finished) (list : List Requested) : Type 0 where
+    pub none-kept : kept ≡ none
+    pub listed : list ≡ o .requested
+    pub suits : Only (Suits (hostOf σ o) inRun) left
+    pub plays : play (hostOf σ o) left ≡ fresh σ o (o .requested)
+
+  -- what is left of an edit comes to the fresh outcome of the edited list; kept is the finished run of the list as it is
+  record EditGoes (e : Edit) (kept : Option Finished) (left : Run Finished) (list : List Requested) : Type 0 where
+    pub was : Finished
+    pub was-kept : kept ≡ some was
+    pub before : fresh σ o list ≡ ends was
+    pub reported : reports σ o (o .requested) ≡ true
+    pub fits : placed e (length list) ≡ true
+    pub suits : Only (Suits (hostOf σ (withList o list)) (λ n. inEdit n e)) left
+    pub plays : play (hostOf σ (withList o list)) left ≡ fresh σ o (edited e list)
+
+  -- a question is left, and this one is open
+  record Opens (at : ℕ → Where) (n : ℕ) (left : Run Finished) (asked : Option Question) : Type 0 where
+    pub hears : heard o (head left) ≡ some n
+    pub asks : asked ≡ questionIn o (at n) (head left)
+
+  -- no question is left
+  record Rests (kept : Option Finished) (left : Run Finished) (list : List Requested) : Type 0 where
+    pub hears : heard o (head left) ≡ none
+    pub finished : finishedBy kept left ≡ cond (reports σ o (o .requested)) (endOf (fresh σ o list)) none
+    pub reported : reports σ o (o .requested) ≡ true → reports σ o list ≡ true
+
+  abbrev Stands : Option Finished → Run Finished → List Requested → Option Question → Where → Type 0
+  Stands kept left list asked (inRun n) = RunGoes kept left list × Opens inRun n left asked
+  Stands kept left list asked idle = Rests kept left list
+  Stands kept left list asked (inEdit n e) = EditGoes e kept left list × Opens (λ n. inEdit n e) n left asked
+
+  abbrev StandsBy : Option Finished → Run Finished → Trail → Type 0
+  StandsBy kept left u = Stands kept left (u .book .list) (u .asked) (u .book .at)
+
+pub record Agrees (σ : Solver) (o : Opening) (t : At) (u : Trail) : Type 0 where
+  is : StandsBy σ o (keptBy (t .last)) (rest o t) u
+
+-- ---- what comes next is heard
+
+-- the trail with this book and what was said
+abbrev noted : Opening → Book → Said → Trail
+noted o b said = record { book = b; asked = questionIn o (b .at) said }
+
+module _ (σ : Solver) (o : Opening) where
+  run-heard : (kept : Option Finished) (left : Run Finished) (list : List Requested) → RunGoes σ o kept left list
+      → StandsBy σ o kept left (noted o (runHeard σ o list (heard o (head left))) (head left))
+  run-heard kept (ask p w k) list g = (g, record { hears = refl; asks = refl })
+  run-heard kept (done c) list g =
+      let f : fresh σ o (o .requested) ≡ ends c = sym (g .plays) in
+      let is : fresh σ o list ≡ ends c = ap (fresh σ o) (g .listed) ∙ f in
+      record { hears = refl; finished = rw (f, is); reported = λ b. ap isReport is }
+  run-heard kept (refuse n i) list g =
+      let f : fresh σ o (o .requested) ≡ refuses n i = sym (g .plays) in
+      record { hears = refl; finished = g .none-kept ∙ rw f; reported = λ b. ap (λ (l : List Requested). reports σ o l) (g .listed) ∙ b }
+
+  edit-heard : (e : Edit) (kept : Option Finished) (left : Run Finished) (list : List Requested) → EditGoes σ o e kept left list
+      → StandsBy σ o kept left (noted o (editHeard σ o e list (heard o (head left))) (head left))
+  edit-heard e kept (ask p w k) list g = (g, record { hears = refl; asks = refl })
+  edit-heard e kept (done c) list g =
+      let f : fresh σ o (edited e list) ≡ ends c = sym (g .plays) in
+      let is : settled σ o e list ≡ edited e list = ap (λ (b : Bool). cond b (edited e list) list) (ap isReport f) in
+      let same : fresh σ o (settled σ o e list) ≡ ends c = ap (fresh σ o) is ∙ f in
+      record { hears = refl; finished = rw (g .reported, same); reported = λ b. ap isReport same }
+  edit-heard e kept (refuse n i) list g =
+      let f : fresh σ o (edited e list) ≡ refuses n i = sym (g .plays) in
+      let is : settled σ o e list ≡ list = ap (λ (b : Bool). cond b (edited e list) list) (ap isReport f) in
+      let same : fresh σ o (settled σ o e list) ≡ ends (g .was) = ap (fresh σ o) is ∙ g .before in
+      record { hears = refl; finished = g .was-kept ∙ rw (g .reported, same); reported = λ b. ap isReport same }
+
+  -- no question comes: what is said, and what stands, is the outcome
+  ends-so : (h : Host) (kept : Option Finished) (left : Run Finished) (f : Outcome Finished) (before : Option Report)
+      → play h left ≡ f → reportBy kept ≡ before → heard o (head left) ≡ none → Ends f before (head left) (λ p. reportBy (finishedBy kept left) ≡ p)
+  ends-so h kept (done c) f before e k z = record { says = ap saidBy e; reads = ap (reportFrom before) e }
+  ends-so h kept (refuse n i) f before e k z = record { says = ap saidBy e; reads = k ∙ ap (reportFrom before) e }
+  ends-so h kept (ask p w k) f before e l z = not-none z
+
+  -- ---- at the opening
+
+  first-goes : RunGoes σ o none (whole o) (o .requested)
+  unfolding fresh
+  first-goes = record { none-kept = refl; listed = refl; suits = only-whole _ (λ n p. refl) (λ n p. refl) o; plays = refl }
+
+  opened-so : (h : Option ℕ) → opened o h ≡ runHeard σ o (o .requested) h
+  opened-so (some n) = refl
+  opened-so none = refl
+
+  -- ---- what stands, and what is ruled
+
+  open-none : (n : ℕ) (kept : Option Finished) (left : Run Finished) → heard o (head left) ≡ some n → finishedBy kept left ≡ none
+  open-none n kept (done c) e = not-none (sym e)
+  open-none n kept (refuse m i) e = not-none (sym e)
+  open-none n kept (ask p w k) e = refl
+
+  reads-so : (kept : Option Finished) (left : Run Finished) (list : List Requested) (asked : Option Question) (at : Where) → Stands σ o kept left list asked at
+      → reportBy (finishedBy kept left) ≡ cond (standsBy σ o at) (reportFrom none (fresh σ o list)) none
+  reads-so kept left list asked (inRun n) s = ap reportBy (open-none n kept left (s .1 .hears))
+  reads-so kept left list asked idle s = ap reportBy (s .finished) ∙ by (reports σ o (o .requested))
+    where
+      by : (b : Bool) → reportBy (cond b (endOf (fresh σ o list)) none) ≡ cond b (reportFrom none (fresh σ o list)) none
+      by true = report-end (fresh σ o list)
+      by false = refl
+  reads-so kept left list asked (inEdit n e) s = ap reportBy (open-none n kept left (s .1 .hears))
+
+  reported-so : (kept : Option Finished) (left : Run Finished) (list : List Requested) (asked : Option Question) (at : Where) → Stands σ o kept left list asked at
+      → standsBy σ o at ≡ true → reports σ o list ≡ true
+  reported-so kept left list asked (inRun n) s b = not-both (sym b)
+  reported-so kept left list asked idle s b = s .reported b
+  reported-so kept left list asked (inEdit n e) s b = not-both (sym b)
+
+  sized-so : (w : Which) → sizeOf o (kindOf w) ≡ wants (sizesFor o) w
+  sized-so shots = refl
+  sized-so distances = refl
+  sized-so (new d) = refl
+
+  module _ (ds : List Float) (ms : List Bool) where
+    reply-open : (n : ℕ) (left : Run Finished) → heard o (head left) ≡ some n → cond (rightLength n ds ms) takes (declines 9) ≡ takingReply (sizesFor o) left ds ms
+    reply-open n (done c) e = not-none (sym e)
+    reply-open n (refuse m i) e = not-none (sym e)
+    reply-open n (ask p w k) e =
+        let same : n ≡ wants (sizesFor o) w = same-some (sym e) ∙ sized-so w in
+        ap (λ (m : ℕ). cond (rightLength m ds ms) takes (declines 9)) same
+      where
+        same-some : {a b : ℕ} → _≡_ {A = Option ℕ} (some a) (some b) → a ≡ b
+        same-some q = cc
+
+    reply-none : (left : Run Finished) → heard o (head left) ≡ none → declines 8 ≡ takingReply (sizesFor o) left ds ms
+    reply-none (done c) e = refl
+    reply-none (refuse m i) e = refl
+    reply-none (ask p w k) e = not-none e
+
+    reply-so : (kept : Option Finished) (left : Run Finished) (list : List Requested) (asked : Option Question) (at : Where) → Stands σ o kept left list asked at
+        → ruledReply σ o at ds ms ≡ takingReply (sizesFor o) left ds ms
+    reply-so kept left list asked (inRun n) s = reply-open n left (s .1 .hears)
+    reply-so kept left list asked idle s = reply-none left (s .hears)
+    reply-so kept left list asked (inEdit n e) s = reply-open n left (s .1 .hears)
+
+  refusal-open : (n : ℕ) (left : Run Finished) → heard o (head left) ≡ some n → takes ≡ takingRefusal left
+  refusal-open n (done c) e = not-none (sym e)
+  refusal-open n (refuse m i) e = not-none (sym e)
+  refusal-open n (ask p w k) e = refl
+
+  refusal-none : (left : Run Finished) → heard o (head left) ≡ none → declines 8 ≡ takingRefusal left
+  refusal-none (done c) e = refl
+  refusal-none (refuse m i) e = refl
+  refusal-none (ask p w k) e = not-none e
+
+  refusal-so : (kept : Option Finished) (left : Run Finished) (list : List Requested) (asked : Option Question) (at : Where) → Stands σ o kept left list asked at
+      → ruledRefusal σ o at ≡ takingRefusal left
+  refusal-so kept left list asked (inRun n) s = refusal-open n left (s .1 .hears)
+  refusal-so kept left list asked idle s = refusal-none left (s .hears)
+  refusal-so kept left list asked (inEdit n e) s = refusal-open n left (s .1 .hears)
+
+  -- the list of a finished run is the book's
+  edit-so : (e : Edit) (kept : Option Finished) (left : Run Finished) (list : List Requested) (asked : Option Question) (at : Where) → Stands σ o kept left list asked at
+      → cond (standsBy σ o at) (cond (placed e (length list)) takes (declines 15)) (declines 14) ≡ takingEdit (finishedBy kept left) e
+  edit-so e kept left list asked (inRun n) s = ap (λ (q : Option Finished). takingEdit q e) (sym (open-none n kept left (s .1 .hears)))
+  edit-so e kept left list asked (inEdit n f) s = ap (λ (q : Option Finished). takingEdit q e) (sym (open-none n kept left (s .1 .hears)))
+  edit-so e kept left list asked idle s = by (reports σ o (o .requested)) (s .reported) (fresh σ o list) refl ∙ ap (λ (q : Option Finished). takingEdit q e) (sym (s .finished))
+    where
+      by : (b : Bool) → (b ≡ true → reports σ o list ≡ true) → (f : Outcome Finished) → fresh σ o list ≡ f
+          → cond b (cond (placed e (length list)) takes (declines 15)) (declines 14) ≡ takingEdit (cond b (endOf (fresh σ o list)) none) e
+      by false h f q = refl
+      by true h (ends c) q =
+          let same : length list ≡ length (c .requested) = ap length (sym (list-kept σ o list c q .0)) in
+          ap (λ (n : ℕ). cond (placed e n) takes (declines 15)) same ∙ ap (λ (f : Outcome Finished). takingEdit (endOf f) e) (sym q)
+      by true h (refuses n i) q = not-both (sym (h refl) ∙ ap isReport q)
+
+-- ---- a call that is taken
+
+module _ (σ : Solver) (o : Opening) (t : At) where
+  -- a reply from the solver is the host's, so what is left comes to what it came to
+  goes-on : (h : Host) (at : ℕ → Where) (n : ℕ) (asked : Option Question) (r : Reply) (left : Run Finished) → rest o t ≡ left → Opens σ o at n left asked
+      → Only (Suits σ o h at) left → Replies σ asked r
+      → Only (Suits σ o h at) (rest o (withReply (t .run) (t .last) r)) × (play h (rest o (withReply (t .run) (t .last) r)) ≡ play h left)
+  unfolding Only
+  goes-on h at n asked r (done c) e s w q = not-none (sym (s .hears))
+  goes-on h at n asked r (refuse m i) e s w q = not-none (sym (s .hears))
+  goes-on h at n asked r (ask p v k) e s w q =
+      let next : rest o (withReply (t .run) (t .last) r) ≡ k r = rest-more o (t .run) (t .last) r p v k e in
+      let same : r ≡ h p v = subst (λ (x : Option Question). Replies σ x r) (s .asks) q ∙ sym (w .0 n p) in
+      (subst (Only (Suits σ o h at)) (sym next) (w .1 r), ap (play h) next ∙ ap (λ (x : Reply). play h (k x)) same)
+
+module _ (σ : Solver) (o : Opening) (t : At) (u : Trail) (a : Agrees σ o t u) where
+  abbrev list : List Requested
+  list = u .book .list
+
+  stands-at : (at : Where) → u .book .at ≡ at → Stands σ o (keptBy (t .last)) (rest o t) list (u .asked) at
+  stands-at at e = subst (Stands σ o (keptBy (t .last)) (rest o t) list (u .asked)) e (a .is)
+
+  -- a reply to the run
+  run-replied : (n : ℕ) → u .book .at ≡ inRun n → (r : Reply) → Replies σ (u .asked) r
+      → RunGoes σ o (keptBy (withReply (t .run) (t .last) r .last)) (rest o (withReply (t .run) (t .last) r)) list
+  run-replied n e r q =
+      let s = stands-at (inRun n) e in
+      let g = goes-on σ o t (hostOf σ o) inRun n (u .asked) r (rest o t) refl (s .1) (s .0 .suits) q in
+      record { none-kept = kept-more o (t .run) (t .last) r ∙ s .0 .none-kept; listed = s .0 .listed; suits = g .0; plays = g .1 ∙ s .0 .plays }
+
+  -- a reply to an edit
+  edit-replied : (n : ℕ) (e : Edit) → u .book .at ≡ inEdit n e → (r : Reply) → Replies σ (u .asked) r
+      → EditGoes σ o e (keptBy (withReply (t .run) (t .last) r .last)) (rest o (withReply (t .run) (t .last) r)) list
+  edit-replied n e i r q =
+      let s = stands-at (inEdit n e) i in
+      let g = goes-on σ o t (hostOf σ (withList o list)) (λ n. inEdit n e) n (u .asked) r (rest o t) refl (s .1) (s .0 .suits) q in
+      record {
+        was = s .0 .was;
+        was-kept = kept-more o (t .run) (t .last) r ∙ s .0 .was-kept;
+        before = s .0 .before;
+        reported = s .0 .reported;
+        fits = s .0 .fits;
+        suits = g .0;
+        plays = g .1 ∙ s .0 .plays;
+      }
+
+  suits-new : (e : Edit) (c : Finished) → Only (Suits σ o (hostOf σ (withList o list)) (λ n. inEdit n e)) (edit c e)
+  suits-new (putIn i d) c = only-edit _ c (putIn i d) (λ n p. refl)
+  suits-new (takeOut i) c = only-edit _ c (takeOut i) tt
+  suits-new (exchange i d) c = only-edit _ c (exchange i d) (λ n p. refl)
+
+  -- an edit, made where this finished run stands
+  abbrev Changed : Edit → Option Finished → Type 0
+  Changed e q = EditGoes σ o e (keptBy (withEdit t q e .last)) (rest o (withEdit t q e)) list
+
+  changed : (e : Edit) → ruledEdit σ o (u .book) e ≡ takes → Changed e (finishedAt o t)
+  changed e = by (u .book .at) refl
+    where
+      by-outcome : (f : Outcome Finished) → fresh σ o list ≡ f → Rests σ o (keptBy (t .last)) (rest o t) list → reports σ o (o .requested) ≡ true
+          → placed e (length list) ≡ true → Changed e (finishedAt o t)
+      by-outcome (ends c) f s b p =
+          let is : finishedAt o t ≡ some c = s .finished ∙ rw (b, f) in
+          subst (Changed e) (sym is)
+          (record { was = c; was-kept = refl; before = f; reported = b; fits = p; suits = suits-new e c; plays = edit-fresh σ o list c e f p })
+      by-outcome (refuses n i) f s b p = not-both (sym (s .reported b) ∙ ap isReport f)
+
+      by-report : (b : Bool) → reports σ o (o .requested) ≡ b → Rests σ o (keptBy (t .last)) (rest o t) list
+          → cond b (cond (placed e (length list)) takes (declines 15)) (declines 14) ≡ takes → Changed e (finishedAt o t)
+      by-report true b s p = by-outcome (fresh σ o list) refl s b (if-takes (placed e (length list)) 15 p)
+      by-report false b s p = apart p
+
+      by : (at : Where) → u .book .at ≡ at → cond (standsBy σ o at) (cond (placed e (length list)) takes (declines 15)) (declines 14) ≡ takes → Changed e (finishedAt o t)
+      by (inRun n) i p = apart p
+      by idle i p = by-report (reports σ o (o .requested)) refl (stands-at idle i) p
+      by (inEdit n f) i p = apart p
+
+  -- ---- by the call
+
+  replies-so : (x : Taking) (r : Reply) → x ≡ takes → Comes σ x (u .asked) r → Replies σ (u .asked) r
+  replies-so x r e q = subst (λ (y : Taking). Comes σ y (u .asked) r) e q
+
+  run-taken : (x : Call) → FromSolver σ o u x → ruled σ o (u .book) x ≡ takes → (n : ℕ) → u .book .at ≡ inRun n
+      → RunGoes σ o (keptBy (taken o t x .last)) (rest o (taken o t x)) list
+  run-taken (reply ds ms) q e n i = run-replied n i (entries (entriesOf ds ms)) (replies-so _ _ e q)
+  run-taken refusePoint q e n i = run-replied n i refused (replies-so _ _ e q)
+  run-taken (change f) q e n i =
+      apart (sym (ap (λ (at : Where). cond (standsBy σ o at) (cond (placed f (length list)) takes (declines 15)) (declines 14)) i) ∙ e)
+
+  edit-taken : (x : Call) → FromSolver σ o u x → ruled σ o (u .book) x ≡ takes → (e : Edit) → Edits (u .book) x e
+      → EditGoes σ o e (keptBy (taken o t x .last)) (rest o (taken o t x)) list
+  edit-taken (reply ds ms) q e f i = edit-replied (i .0) f (i .1) (entries (entriesOf ds ms)) (replies-so _ _ e q)
+  edit-taken refusePoint q e f i = edit-replied (i .0) f (i .1) refused (replies-so _ _ e q)
+  edit-taken (change g) q e f i =
+      subst (λ (f : Edit). EditGoes σ o f (keptBy (taken o t (change g) .last)) (rest o (taken o t (change g))) list) i (changed g e)
+
+  -- a taken call leads to where this book stands
+  abbrev Leads : Call → (Option ℕ → Book) → Type 0
+  Leads x b = let left = rest o (taken o t x) in StandsBy σ o (keptBy (taken o t x .last)) left (noted o (b (heard o (head left))) (head left))
+
+  -- where a reply is taken, the run has a question open, or an edit has
+  reply-leads : (x : Call) → FromSolver σ o u x → ruled σ o (u .book) x ≡ takes → ((n : ℕ) (e : Edit) → u .book .at ≡ inEdit n e → Edits (u .book) x e)
+      → (u .book .at ≡ idle → ruled σ o (u .book) x ≡ declines 8) → Leads x (replyHeard σ o (u .book .at) list)
+  reply-leads x q e edits closed = by (u .book .at) refl
+    where
+      by : (at : Where) → u .book .at ≡ at → Leads x (replyHeard σ o at list)
+      by (inRun n) i = run-heard σ o _ (rest o (taken o t x)) list (run-taken x q e n i)
+      by idle i = apart (sym (closed i) ∙ e)
+      by (inEdit n f) i = edit-heard σ o f _ (rest o (taken o t x)) list (edit-taken x q e f (edits n f i))
+
+  leads : (x : Call) → FromSolver σ o u x → ruled σ o (u .book) x ≡ takes → Leads x (callHeard σ o (u .book) x)
+  leads (reply ds ms) q e = reply-leads (reply ds ms) q e (λ n f i. (n, i)) (ap (λ (at : Where). ruledReply σ o at ds ms))
+  leads refusePoint q e = reply-leads refusePoint q e (λ n f i. (n, i)) (ap (ruledRefusal σ o))
+  leads (change f) q e = edit-heard σ o f _ (rest o (taken o t (change f))) list (edit-taken (change f) q e f refl)
+
+-- ---- the theorems
+
+pub agrees-first : (σ : Solver) (o : Opening) → Agrees σ o first (begun o (head (whole o)))
+agrees-first σ o = record {
+  is = subst (λ (b : Book). StandsBy σ o none (whole o) (noted o b (head (whole o)))) (sym (opened-so σ o (heard o (head (whole o)))))
+      (run-heard σ o none (whole o) (o .requested) (first-goes σ o));
+}
+
+-- the report that stands by the definition stands by the book
+pub stands-by : (σ : Solver) (o : Opening) (t : At) (u : Trail) → Agrees σ o t u → reportBy (finishedAt o t) ≡ standing σ o (u .book)
+stands-by σ o t u a = reads-so σ o (keptBy (t .last)) (rest o t) (u .book .list) (u .asked) (u .book .at) (a .is)
+
+pub agrees-opened : (σ : Solver) (o : Opening)
+    → (heard o (head (whole o)) ≡ none → Ends (fresh σ o (o .requested)) none (head (whole o)) (λ p. reportBy (finishedAt o first) ≡ p))
+    × (reportBy (finishedAt o first) ≡ standing σ o (opened o (heard o (head (whole o)))))
+agrees-opened σ o =
+    (ends-so σ o (hostOf σ o) none (whole o) (fresh σ o (o .requested)) none (first-goes σ o .plays) refl, stands-by σ o first (begun o (head (whole o))) (agrees-first σ o))
+
+pub agrees-ruled : (σ : Solver) (o : Opening) (t : At) (u : Trail) → Agrees σ o t u → (x : Call) → ruled σ o (u .book) x ≡ stance o t x
+agrees-ruled σ o t u a (reply ds ms) = reply-so σ o ds ms (keptBy (t .last)) (rest o t) (u .book .list) (u .asked) (u .book .at) (a .is)
+agrees-ruled σ o t u a refusePoint = refusal-so σ o (keptBy (t .last)) (rest o t) (u .book .list) (u .asked) (u .book .at) (a .is)
+agrees-ruled σ o t u a (change e) = edit-so σ o e (keptBy (t .last)) (rest o t) (u .book .list) (u .asked) (u .book .at) (a .is)
+
+module _ (σ : Solver) (o : Opening) (t : At) (u : Trail) (a : Agrees σ o t u) (x : Call) (q : FromSolver σ o u x) where
+  abbrev placeBy : Taking → At
+  placeBy y = unlessDeclined y t (taken o t x)
+
+  abbrev saidTo : Taking → Said
+  saidTo y = due y (rest o (placeBy y))
+
+  abbrev trailBy : Taking → Said → Trail
+  trailBy y said = unlessDeclined y u (noted o (unlessDeclined y (u .book) (callHeard σ o (u .book) x (heard o said))) said)
+
+  next : Agrees σ o (after o t x) (followed σ o u x (dueTo o t x))
+  next = subst (λ (y : Taking). Agrees σ o (placeBy (stance o t x)) (trailBy y (saidTo (stance o t x)))) (sym (agrees-ruled σ o t u a x)) (by (stance o t x) refl)
+    where
+      by : (y : Taking) → stance o t x ≡ y → Agrees σ o (placeBy y) (trailBy y (saidTo y))
+      by (declines n) e = a
+      by takes e = record { is = leads σ o t u a x q (agrees-ruled σ o t u a x ∙ e) }
+
+  -- the book is that of the trail
+  booked-so : (y : Taking) (said : Said) → unlessDeclined y (u .book) (callHeard σ o (u .book) x (heard o said)) ≡ trailBy y said .book
+  booked-so (declines n) said = refl
+  booked-so takes said = refl
+
+  -- what holds of the call as taken
+  as-taken : (P : At → Said → Type 0) → ruled σ o (u .book) x ≡ takes → P (taken o t x) (head (rest o (taken o t x))) → P (after o t x) (dueTo o t x)
+  as-taken P e h = subst (λ (y : Taking). P (placeBy y) (saidTo y)) (sym (sym (agrees-ruled σ o t u a x) ∙ e)) h
+
+  abbrev EndsSo : Outcome Finished → Option Report → At → Said → Type 0
+  EndsSo f before s said = heard o said ≡ none → Ends f before said (λ p. reportBy (finishedAt o s) ≡ p)
+
+  holds : Holds σ o (u .book) x (dueTo o t x) (λ p. reportBy (finishedAt o (after o t x)) ≡ p)
+  holds =
+      let list = u .book .list in
+      let kept = keptBy (taken o t x .last) in
+      let left = rest o (taken o t x) in
+      let then = followed σ o u x (dueTo o t x) in
+      let b : booked σ o (u .book) x (heard o (dueTo o t x)) ≡ then .book = booked-so (ruled σ o (u .book) x) (dueTo o t x) in
+      record {
+        run-ends = λ n i e.
+            let g = run-taken σ o t u a x q e n i in
+            as-taken (EndsSo (fresh σ o (o .requested)) none) e (ends-so σ o (hostOf σ o) kept left (fresh σ o (o .requested)) none (g .plays) (ap reportBy (g .none-kept)));
+        edit-ends = λ f i e.
+            let g = edit-taken σ o t u a x q e f i in
+            let was = reportFrom none (fresh σ o list) in
+            as-taken (EndsSo (fresh σ o (edited f list)) was) e
+            (ends-so σ o (hostOf σ (withList o list)) kept left (fresh σ o (edited f list)) was (g .plays) (ap reportBy (g .was-kept) ∙ ap (reportFrom none) (sym (g .before))));
+        only-band = λ f i e c d v w. only-band σ o list c d f v (edit-taken σ o t u a x q e f i .fits) w;
+        stands = stands-by σ o (after o t x) then next ∙ ap (standing σ o) (sym b);
+        reported = λ h.
+            let is : standsBy σ o (then .book .at) ≡ true = ap (λ (c : Book). standsBy σ o (c .at)) (sym b) ∙ h in
+            ap (λ (c : Book). reports σ o (c .list)) b
+            ∙ reported-so σ o (keptBy (after o t x .last)) (rest o (after o t x)) (then .book .list) (then .asked) (then .book .at) (next .is) is;
+      }
+
+pub agrees-next : (σ : Solver) (o : Opening) (t : At) (u : Trail) → Agrees σ o t u → (x : Call) → FromSolver σ o u x
+    → Agrees σ o (after o t x) (followed σ o u x (dueTo o t x))
+agrees-next σ o t u a x q = next σ o t u a x q
+
+pub agrees-holds : (σ : Solver) (o : Opening) (t : At) (u : Trail) → Agrees σ o t u → (x : Call) → FromSolver σ o u x
+    → Holds σ o (u .book) x (dueTo o t x) (λ p. reportBy (finishedAt o (after o t x)) ≡ p)
+agrees-holds σ o t u a x q = holds σ o t u a x q

@@ -1,0 +1,4 @@
+pub mod Questions
+pub mod Book
+pub mod Demands
+pub mod Example

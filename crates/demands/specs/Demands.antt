@@ -1,0 +1,141 @@
+-- The three demands over any list of calls on a session just opened, declined ones included. Stated over what a host sees: the answers, and what the calls that read
+-- a session give. Theorems `demand-1`, `demand-2` and `demand-3` stand in proofs/Demands.antt.
+use Prim.Native.Nat.{ℕ, suc, _≤_}
+use mathlib.Core.Path.{_≡_}
+use mathlib.Core.List.{List, [], _∷_}
+use mathlib.Core.Option.{Option, none, some}
+use Rattle.definition.specs.Request.{Opening}
+use Rattle.definition.specs.Run.{Run, done, refuse, bind}
+use Rattle.definition.specs.Summary.{Report, reportOf}
+use Rattle.definition.specs.Whole.{Edit, whole, checkedMeasured, checkedRequested}
+use Rattle.definition.specs.Laws.{put}
+use Rattle.fresh.specs.Solver.{Solver, fresh}
+use Rattle.report.specs.Places.{resultSays, bandAtSays}
+use Rattle.report.specs.declared.ResultAt.{ResultAt}
+use Rattle.report.specs.declared.BandAt.{BandAt}
+use Rattle.session.specs.Meaning.{Said, question, report, refusal, said, head, ofShots}
+use Rattle.session.specs.Reading.{Shows, placeIn, baselineResults}
+use Rattle.session.specs.declared.Shown.{Shown}
+use Rattle.editing.specs.Meaning.{Opened, Replied, PointRefused, Edited, ReportRead, ResultRead, BaselineResultRead, BandRead}
+use Rattle.editing.specs.declared.Session.{Session}
+use Rattle.editing.specs.declared.Answer.{Answer}
+use Rattle.demands.specs.Calls.{Call, reply, refusePoint, change, Editing, At, first, rest, finishedAt, reportBy, declines, takes, stance, after, dueTo}
+use Rattle.demands.specs.Book.{heard, opened, ruled, Ends, standing, Holds, Trail, begun, followed, FromSolver}
+
+-- ---- the calls of a host
+
+-- a call and the answer that it got
+pub record Made : Type 0 where
+  pub call : Call
+  pub answer : Answer
+
+-- the contract of the call, which the code is proved to meet
+abbrev pub Meets : Call → Session → Answer → Type 0
+Meets (reply ds ms) s a = Replied s ds ms a
+Meets refusePoint s a = PointRefused s a
+Meets (change e) s a = Edited s e a
+
+-- each call is made on the session that the one before gave back
+abbrev pub Chained : Answer → List Made → Type 0
+Chained a [] = Unit {0}
+Chained a (c ∷ cs) = Meets (c .call) (a .session) (c .answer) × Chained (c .answer) cs
+
+-- a property of each call of a list, from where the run and its edits stand and from this session on
+abbrev pub Throughout : (At → Session → Made → Type 0) → Opening → At → Session → List Made → Type 0
+Throughout P o t s [] = Unit {0}
+Throughout P o t s (c ∷ cs) = P t s c × Throughout P o (after o t (c .call)) (c .answer .session) cs
+
+abbrev pub Whatever : (Opening → Answer → Type 0) → (Opening → At → Session → Made → Type 0) → Type 0
+Whatever First P = (o : Opening) (a : Answer) → Opened o a → (cs : List Made) → Chained a cs → First o a × Throughout (P o) o first (a .session) cs
+
+-- what the calls that read this session give is this report, in its head and in each place of its lists, or that there is none
+pub record ReadsAs (s : Session) (p : Option Report) : Type 0 where
+  pub heads : (r : Shown) → ReportRead s r → Shows r p
+  pub results : (i : ℕ) (r : ResultAt) → ResultRead s i r → resultSays r ≡ placeIn (λ q. q .observations) i p
+  pub baseline-results : (i : ℕ) (r : ResultAt) → BaselineResultRead s i r → resultSays r ≡ placeIn baselineResults i p
+  pub bands : (i : ℕ) (r : BandAt) → BandRead s i r → bandAtSays r ≡ placeIn (λ q. q .bands) i p
+
+-- what the call that reads the count of questions gives
+abbrev pub count : Session → ℕ
+count s = s .run .asked
+
+-- ---- demand 1: every call ends properly, whatever is replied
+
+abbrev pub checked : Opening → Run (Unit {0})
+checked o = bind (checkedMeasured (o .measured)) (λ u. checkedRequested (o .requested))
+
+-- a faulty request gets its number and position, and a sound one the first question
+pub record OpensProperly (o : Opening) (a : Answer) : Type 0 where
+  pub faulty : (n i : ℕ) → checked o ≡ refuse n i → (said (a .step) ≡ refusal n i) × (count (a .session) ≡ 0)
+  pub sound : checked o ≡ done tt → (said (a .step) ≡ question (o .measured .entered .mv) (o .measured .entered .bc) ofShots) × (count (a .session) ≡ 1)
+
+-- the count with what is said now: in the run a question counts, in an edit it does not
+abbrev pub countedSaid : Option Editing → ℕ → Said → ℕ
+countedSaid none n (question mv bc list) = suc n
+countedSaid none n report = n
+countedSaid none n (refusal m i) = n
+countedSaid (some x) n said = n
+
+pub record EndsProperly (o : Opening) (t : At) (s : Session) (c : Made) : Type 0 where
+  -- a call that was not due gets its number and changes nothing
+  pub declined : (n : ℕ) → stance o t (c .call) ≡ declines n → (said (c .answer .step) ≡ refusal n 0) × (c .answer .session ≡ s)
+  -- the count rises by one exactly where the run's answer is a question, and stays within its limit, so that no run puts more questions
+  pub counted : count (c .answer .session) ≡ countedSaid (after o t (c .call) .last) (count s) (said (c .answer .step))
+  pub limited : count (c .answer .session) ≤ 4546
+  -- an edit that is let through is of the report that stands, and one that ends in a refusal restores it
+  pub edits : (x : Editing) → stance o t (c .call) ≡ takes → c .call ≡ change (x .made) → after o t (c .call) .last ≡ some x → ReadsAs s (some (reportOf (x .of)))
+  pub restored : (x : Editing) (n i : ℕ) → after o t (c .call) .last ≡ some x → rest o (after o t (c .call)) ≡ refuse n i → ReadsAs (c .answer .session) (some (reportOf (x .of)))
+
+-- Theorem `demand-1`.
+abbrev pub Demand1 : Type 0
+Demand1 = Whatever OpensProperly EndsProperly
+
+-- ---- demand 2: every question and the whole report, or the lack of one, are the definition's, whatever is replied
+
+pub record OpensAsDefined (o : Opening) (a : Answer) : Type 0 where
+  pub says : said (a .step) ≡ head (whole o)
+  pub counts : count (a .session) ≡ put (whole o) []
+  pub reads : ReadsAs (a .session) (reportBy (finishedAt o first))
+
+-- what is said, the number of questions that the run has put, and the report
+pub record AsDefined (o : Opening) (t : At) (s : Session) (c : Made) : Type 0 where
+  pub says : said (c .answer .step) ≡ dueTo o t (c .call)
+  pub counts : count (c .answer .session) ≡ put (whole o) (after o t (c .call) .run)
+  pub reads : ReadsAs (c .answer .session) (reportBy (finishedAt o (after o t (c .call))))
+
+-- Theorem `demand-2`.
+abbrev pub Demand2 : Type 0
+Demand2 = Whatever OpensAsDefined AsDefined
+
+-- ---- demand 3: the run and each edit end as a fresh run does, whatever pointwise solver the taken replies come from
+
+module _ (σ : Solver) (o : Opening) where
+  -- the trail goes by the calls and what was said to them
+  abbrev pub nextTrail : Trail → Made → Trail
+  nextTrail u c = followed σ o u (c .call) (said (c .answer .step))
+
+  -- every reply that is taken comes from the solver
+  abbrev pub AllFrom : Trail → List Made → Type 0
+  AllFrom u [] = Unit {0}
+  AllFrom u (c ∷ cs) = FromSolver σ o u (c .call) × AllFrom (nextTrail u c) cs
+
+  -- where the opening is refused, that is its list's fresh outcome
+  pub record OpensFresh (a : Answer) : Type 0 where
+    pub ends : heard o (said (a .step)) ≡ none → Ends (fresh σ o (o .requested)) none (said (a .step)) (ReadsAs (a .session))
+    pub stands : ReadsAs (a .session) (standing σ o (opened o (heard o (said (a .step)))))
+
+  pub record EndsFresh (u : Trail) (s : Session) (c : Made) : Type 0 where
+    -- where the book's rules place 8, 9, 14 and 15, they come and change nothing
+    pub declined : (n : ℕ) → ruled σ o (u .book) (c .call) ≡ declines n → (said (c .answer .step) ≡ refusal n 0) × (c .answer .session ≡ s)
+    -- the run's end, an edit's end, and the report that stands
+    pub holds : Holds σ o (u .book) (c .call) (said (c .answer .step)) (ReadsAs (c .answer .session))
+
+  abbrev pub Along : Trail → Session → List Made → Type 0
+  Along u s [] = Unit {0}
+  Along u s (c ∷ cs) = EndsFresh u s c × Along (nextTrail u c) (c .answer .session) cs
+
+-- Theorem `demand-3`.
+abbrev pub Demand3 : Type 0
+Demand3 =
+    (σ : Solver) (o : Opening) (a : Answer) → Opened o a → (cs : List Made) → Chained a cs → AllFrom σ o (begun o (said (a .step))) cs
+    → OpensFresh σ o a × Along σ o (begun o (said (a .step))) (a .session) cs

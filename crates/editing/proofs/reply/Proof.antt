@@ -1,0 +1,40 @@
+-- `reply`: the run's, or the open edit's.
+use borrow.Author.Needs.{needs}
+use Rattle.editing.proofs.Calls.{run-replied, edit-replied}
+use Rattle.editing.proofs.reply.Statement.{statement}
+use Rattle.editing.proofs.reply.Tie as tie
+
+enum-told : tie.Need-enum-told
+enum-told c = search needs
+
+reply-requires : tie.Need-reply-requires
+reply-requires c κs = search needs
+
+of-run-requires : tie.Need-of-run-requires
+of-run-requires c κs = search needs
+
+enum-known-edit : tie.Need-enum-known-edit
+enum-known-edit c = search needs
+
+reply-new-requires : tie.Need-reply-new-requires
+reply-new-requires c κs = search needs
+
+returns : tie.Need-returns
+returns c =
+    run-replied (c .before .before .before .before .before .before .before .args .s) (c .before .before .enum-told .given .1) (c .before .before .before .before .before .before .before .args .reply .now) (c .before .before .before .before .before .before .before .args .missing .now) (c .before .reply .result) _ (c .before .reply .ensures) (c .of-run .ensures)
+
+returns-2 : tie.Need-returns-2
+returns-2 c =
+    edit-replied (c .before .before .before .before .before .before .before .args .s) _ (c .before .before .edit .given .1) (c .before .before .before .before .before .before .before .args .reply .now) (c .before .before .before .before .before .before .before .args .missing .now) _ (c .reply-new .ensures)
+
+pub reply-spec : {M : Type 1} → statement M
+reply-spec =
+    tie.close
+    (tie.spec
+    enum-told
+    reply-requires
+    of-run-requires
+    enum-known-edit
+    reply-new-requires
+    returns
+    returns-2)

@@ -1,0 +1,479 @@
+// A session whose requested distances can be edited once its run has ended. The run is a `session::Session`; an edit asks about its new distance alone and
+// then changes the list and the bands of the finished run, or leaves them as they were.
+use definition::Point;
+use definition::Row;
+use definition::TruingPriorsV1;
+use report::BandAt;
+use report::ResultAt;
+use session::Change;
+use session::Distances;
+use session::Fitted;
+use session::Shown;
+use session::Step;
+ghost use mathlib.Core.Path.{_≡_};
+ghost use mathlib.Core.Bool.{true};
+ghost use mathlib.Core.List.{[], _∷_, map};
+ghost use lib.ListN.{length};
+ghost use Rattle.definition.specs.Run.{readingOf, dropOr0};
+ghost use Rattle.definition.specs.Whole.{putIn, takeOut, exchange};
+ghost use Rattle.likelihood.specs.Arrays.{entriesOf};
+ghost use mathlib.Core.Option.{some};
+ghost use Rattle.definition.specs.Summary.{Finished};
+ghost use Rattle.session.specs.Meaning as running;
+ghost use Rattle.session.specs.Meaning.{standing, sizesOf, rowsNext};
+ghost use Rattle.session.specs.Opening.{wantedAt, openingOf};
+ghost use Rattle.session.specs.Changing.{editOf, fittedIn, fittedSays};
+ghost use Rattle.editing.specs.Meaning.{oneRows, placeOf, puts, opens, state, Stands, Declines, ofRun, closedWith, asksWith, askedAt, newly, openPoint, pointSays, rowFrom, nextLeft, Opened, Replied, PointRefused, Edited, ReportRead, ResultRead, BaselineResultRead, BandRead};
+
+// The new distance's row as far as the five questions have been answered, and whether an entry was missing: 1, or 0.
+pub struct One {
+    predicted: f64,
+    by_mv: f64,
+    by_bc: f64,
+    gap: usize,
+}
+
+// An edit with a question open: the change that it makes, how many of the five questions have been answered, and its row.
+pub struct OpenEdit {
+    change: Change,
+    answered: usize,
+    one: One,
+}
+
+pub enum Editing {
+    Closed,
+    Asks(OpenEdit),
+}
+
+pub struct Session {
+    run: session::Session,
+    edit: Editing,
+}
+
+pub struct Answer {
+    pub step: Step,
+    pub session: Session,
+}
+
+// ---- answers
+
+fn declined(s: Session, number: usize) -> Answer
+    ensures { λ r. ⌜ Declines r s number ⌝ }
+{
+    Answer {
+        step: Step::Refused(number, 0),
+        session: s,
+    }
+}
+
+// An answer of the run.
+fn of_run(a: session::Answer) -> Answer
+    ensures { λ r. ⌜ r ≡ ofRun a ⌝ }
+{
+    let run = a.session;
+    let step = a.step;
+    Answer {
+        step,
+        session: Session {
+            run,
+            edit: Editing::Closed,
+        },
+    }
+}
+
+// An edit ends, with the run that stands then.
+fn closed_with(run: session::Session, step: Step) -> Answer
+    ensures { λ r. ⌜ r ≡ closedWith run step ⌝ }
+{
+    Answer {
+        step,
+        session: Session {
+            run,
+            edit: Editing::Closed,
+        },
+    }
+}
+
+// An edit asks its next question, about the new distance.
+fn asks(run: session::Session, asking: OpenEdit, p: Point) -> Answer
+    ensures { λ r. ⌜ r ≡ askedAt run asking p ⌝ }
+{
+    Answer {
+        step: Step::Question(p.mv, p.bc, Distances::New),
+        session: Session {
+            run,
+            edit: Editing::Asks(asking),
+        },
+    }
+}
+
+// ---- the row of the new distance
+
+fn only_drop(reply: &[f64], missing: &[bool]) -> f64
+    requires { ⌜ (length (now reply) ≡ 1) × (length (now missing) ≡ 1) ⌝ }
+    ensures { λ r. ⌜ map dropOr0 (entriesOf (now (reply .entry)) (now (missing .entry))) ≡ r ∷ [] ⌝ }
+{
+    likelihood::drop_or_0(reply[0], missing[0])
+}
+
+// The row with the reply to the k-th of the five questions, counted from 0.
+fn read_one(one: One, k: usize, p: Point, reply: &[f64], missing: &[bool]) -> One
+    requires { ⌜ (length (now reply) ≡ 1) × (length (now missing) ≡ 1) ⌝ }
+    ensures { λ r. ⌜ oneRows r ≡ rowsNext k p (oneRows one) (readingOf (entriesOf (now (reply .entry)) (now (missing .entry)))) ⌝ }
+{
+    let found = likelihood::first_gap(reply, missing);
+    let x = only_drop(reply, missing);
+    if k == 0 {
+        return One {
+            predicted: x,
+            gap: found,
+            ..one
+        };
+    }
+    let gap = likelihood::first_of(one.gap, found);
+    if k == 1 {
+        return One {
+            by_mv: x,
+            gap,
+            ..one
+        };
+    }
+    if k == 2 {
+        let by_mv = likelihood::slope_of(likelihood::mv_step(p.mv), one.by_mv, x);
+        return One { by_mv, gap, ..one };
+    }
+    if k == 3 {
+        return One {
+            by_bc: x,
+            gap,
+            ..one
+        };
+    }
+    let by_bc = likelihood::slope_of(likelihood::bc_step(p.bc), one.by_bc, x);
+    One { by_bc, gap, ..one }
+}
+
+// ---- an edit
+
+// The point of the fit, where an edit can have a question open.
+pub enum OpenPoint {
+    Absent,
+    Here(Point),
+}
+
+fn puts_questions(change: Change) -> bool
+    ensures { λ r. ⌜ r ≡ puts (editOf change) ⌝ }
+{
+    match change {
+        Change::PutIn(_i, _range, _sigma) => true,
+        Change::TakeOut(_i) => false,
+        Change::Exchange(_i, _range, _sigma) => true,
+    }
+}
+
+fn place_of(change: Change) -> usize
+    ensures { λ r. ⌜ r ≡ placeOf (editOf change) ⌝ }
+{
+    match change {
+        Change::PutIn(i, _range, _sigma) => i,
+        Change::TakeOut(i) => i,
+        Change::Exchange(i, _range, _sigma) => i,
+    }
+}
+
+// A session that no call gave may have an edit open that fits no finished run.
+fn open_point(run: session::Session, change: Change) -> OpenPoint
+    ensures { λ r. ⌜ pointSays r ≡ openPoint (fittedIn (running.state run)) (editOf change) ⌝ }
+{
+    match session::fit_of(run) {
+        Fitted::Unfitted => OpenPoint::Absent,
+        Fitted::FittedAt(p, n) => {
+            let placed = session::is_placed(change, n);
+            let asks = session::has_room(change, n) & puts_questions(change);
+            if placed & asks {
+                return OpenPoint::Here(p);
+            }
+            OpenPoint::Absent
+        }
+    }
+}
+
+fn row_of(one: One) -> Row
+    ensures { λ r. ⌜ r ≡ rowFrom one ⌝ }
+{
+    Row {
+        predicted_drop: one.predicted,
+        d_drop_d_mv: one.by_mv,
+        d_drop_d_bc: one.by_bc,
+    }
+}
+
+// The k-th reply about the new distance is in its row. A gap is judged after the fifth; the edit then leaves the finished run as it was.
+fn after_reply(run: session::Session, change: Change, k: usize, p: Point, one: One) -> Answer
+    ensures { λ r. ⌜ ((c : Finished) → running.state run ≡ standing c → c .fit .point ≡ p → opens (editOf change) (length (c .requested)) ≡ true → Stands r (sizesOf (run .body)) (some c) (run .asked) (nextLeft c change k p (oneRows one))) ⌝ }
+{
+    if k < 4 {
+        let q = session::stencil_point(p, k + 1);
+        let next = OpenEdit {
+            change,
+            answered: k + 1,
+            one,
+        };
+        return asks(run, next, q);
+    }
+    if one.gap != 0 {
+        let place = place_of(change);
+        return closed_with(run, Step::Refused(13, place));
+    }
+    let row = row_of(one);
+    let next = session::changed(run, change, row);
+    closed_with(next, Step::Report)
+}
+
+// A reply about the new distance.
+fn reply_new<'a>(
+    run: session::Session,
+    asking: OpenEdit,
+    reply: &'a [f64],
+    missing: &'a [bool],
+) -> Answer
+    ensures { λ r. ⌜ Replied (asksWith run asking) (now (reply .entry)) (now (missing .entry)) r ⌝ }
+{
+    let change = asking.change;
+    let k = asking.answered;
+    let old = asking.one;
+    let s = Session {
+        run,
+        edit: Editing::Asks(asking),
+    };
+    match open_point(run, change) {
+        OpenPoint::Absent => declined(s, 8),
+        OpenPoint::Here(p) => {
+            if !session::right_length(reply, missing, 1) {
+                return declined(s, 9);
+            }
+            let one = read_one(old, k, p, reply, missing);
+            after_reply(run, change, k, p, one)
+        }
+    }
+}
+
+// A refusal of the point of a question about the new distance.
+fn refuse_new(run: session::Session, asking: OpenEdit) -> Answer
+    ensures { λ r. ⌜ PointRefused (asksWith run asking) r ⌝ }
+{
+    let change = asking.change;
+    let s = Session {
+        run,
+        edit: Editing::Asks(asking),
+    };
+    match open_point(run, change) {
+        OpenPoint::Absent => declined(s, 8),
+        OpenPoint::Here(_p) => closed_with(run, Step::Refused(10, 0)),
+    }
+}
+
+// ---- the calls
+
+// The opening: refused by its checks, or the first question, at the entered point.
+pub fn open<'a>(
+    entered: Point,
+    ranges: &'a [f64],
+    drops: &'a [f64],
+    sigmas: &'a [f64],
+    priors: TruingPriorsV1,
+    distances: &'a [f64],
+    future: &'a [f64],
+    given: &'a [bool],
+) -> Answer
+    ensures { λ r. ⌜ Opened (openingOf entered (now (ranges .entry)) (now (drops .entry)) (now (sigmas .entry)) priors (now (distances .entry)) (now (future .entry)) (now (given .entry))) r ⌝ }
+{
+    of_run(session::open(
+        entered,
+        ranges,
+        drops,
+        sigmas,
+        priors,
+        distances,
+        future,
+        given,
+    ))
+}
+
+// A reply with an entry for each distance of the open question: a drop, or its flag for one that is missing.
+pub fn reply<'a>(s: Session, reply: &'a [f64], missing: &'a [bool]) -> Answer
+    ensures { λ r. ⌜ Replied s (now (reply .entry)) (now (missing .entry)) r ⌝ }
+{
+    let run = s.run;
+    let edit = s.edit;
+    match edit {
+        Editing::Closed => of_run(session::reply(run, reply, missing)),
+        Editing::Asks(asking) => reply_new(run, asking, reply, missing),
+    }
+}
+
+// The host refuses the point: the run or the edit ends, but for the baseline, whose refusal refuses nothing.
+pub fn refuse(s: Session) -> Answer
+    ensures { λ r. ⌜ PointRefused s r ⌝ }
+{
+    let run = s.run;
+    let edit = s.edit;
+    match edit {
+        Editing::Closed => of_run(session::refuse(run)),
+        Editing::Asks(asking) => refuse_new(run, asking),
+    }
+}
+
+// The finished run that stands, unless an edit has a question open.
+fn standing(s: Session) -> Fitted
+    ensures { λ r. ⌜ fittedSays r ≡ fittedIn (state s) ⌝ }
+{
+    let run = s.run;
+    let edit = s.edit;
+    match edit {
+        Editing::Closed => session::fit_of(run),
+        Editing::Asks(_asking) => Fitted::Unfitted,
+    }
+}
+
+// The first of the five questions about the new distance.
+fn begin(run: session::Session, change: Change, p: Point) -> Answer
+    ensures { λ r. ⌜ r ≡ askedAt run (newly change) p ⌝ }
+{
+    let one = One {
+        predicted: 0.0,
+        by_mv: 0.0,
+        by_bc: 0.0,
+        gap: 0,
+    };
+    let asking = OpenEdit {
+        change,
+        answered: 0,
+        one,
+    };
+    asks(run, asking, p)
+}
+
+// A requested distance, with its sigma if one is given, is put in at a place; later ones move up.
+pub fn put_in(s: Session, place: usize, range: f64, sigma: f64, given: bool) -> Answer
+    ensures { λ r. ⌜ Edited s (putIn place (wantedAt range sigma given)) r ⌝ }
+{
+    let run = s.run;
+    match standing(s) {
+        Fitted::Unfitted => declined(s, 14),
+        Fitted::FittedAt(p, n) => {
+            let change = Change::PutIn(place, range, session::sigma_or_0(sigma, given));
+            if !session::is_placed(change, n) {
+                return declined(s, 15);
+            }
+            if n >= 64 {
+                return closed_with(run, Step::Refused(6, 0));
+            }
+            if !session::is_sound_wanted(range, sigma, given) {
+                return closed_with(run, Step::Refused(7, place));
+            }
+            begin(run, change, p)
+        }
+    }
+}
+
+// The requested distance at a place is taken out. No question is put.
+pub fn take_out(s: Session, place: usize) -> Answer
+    ensures { λ r. ⌜ Edited s (takeOut place) r ⌝ }
+{
+    let run = s.run;
+    match standing(s) {
+        Fitted::Unfitted => declined(s, 14),
+        Fitted::FittedAt(_p, n) => {
+            let change = Change::TakeOut(place);
+            if !session::is_placed(change, n) {
+                return declined(s, 15);
+            }
+            let row = Row {
+                predicted_drop: 0.0,
+                d_drop_d_mv: 0.0,
+                d_drop_d_bc: 0.0,
+            };
+            let next = session::changed(run, change, row);
+            closed_with(next, Step::Report)
+        }
+    }
+}
+
+// The requested distance at a place is exchanged for another.
+pub fn exchange(s: Session, place: usize, range: f64, sigma: f64, given: bool) -> Answer
+    ensures { λ r. ⌜ Edited s (exchange place (wantedAt range sigma given)) r ⌝ }
+{
+    let run = s.run;
+    match standing(s) {
+        Fitted::Unfitted => declined(s, 14),
+        Fitted::FittedAt(p, n) => {
+            let change = Change::Exchange(place, range, session::sigma_or_0(sigma, given));
+            if !session::is_placed(change, n) {
+                return declined(s, 15);
+            }
+            if !session::is_sound_wanted(range, sigma, given) {
+                return closed_with(run, Step::Refused(7, place));
+            }
+            begin(run, change, p)
+        }
+    }
+}
+
+// ---- reading
+
+// How many questions the run has put. Those of an edit are outside this count.
+pub fn asked(s: Session) -> u64
+    ensures { λ r. ⌜ r ≡ s .run .asked ⌝ }
+{
+    let run = s.run;
+    session::asked(run)
+}
+
+// The report that stands, but for its lists: none while a question is open.
+pub fn report(s: Session) -> Shown
+    ensures { λ r. ⌜ ReportRead s r ⌝ }
+{
+    let run = s.run;
+    let edit = s.edit;
+    match edit {
+        Editing::Closed => session::report(run),
+        Editing::Asks(_asking) => Shown::Absent,
+    }
+}
+
+// The i-th observation result of the report that stands, counted from 0.
+pub fn observation_result(s: Session, i: usize) -> ResultAt
+    ensures { λ r. ⌜ ResultRead s i r ⌝ }
+{
+    let run = s.run;
+    let edit = s.edit;
+    match edit {
+        Editing::Closed => session::observation_result(run, i),
+        Editing::Asks(_asking) => ResultAt::Absent,
+    }
+}
+
+// The i-th observation result of its baseline, if it has one.
+pub fn baseline_result(s: Session, i: usize) -> ResultAt
+    ensures { λ r. ⌜ BaselineResultRead s i r ⌝ }
+{
+    let run = s.run;
+    let edit = s.edit;
+    match edit {
+        Editing::Closed => session::baseline_result(run, i),
+        Editing::Asks(_asking) => ResultAt::Absent,
+    }
+}
+
+// The i-th band of the report that stands.
+pub fn predictive_band(s: Session, i: usize) -> BandAt
+    ensures { λ r. ⌜ BandRead s i r ⌝ }
+{
+    let run = s.run;
+    let edit = s.edit;
+    match edit {
+        Editing::Closed => session::predictive_band(run, i),
+        Editing::Asks(_asking) => BandAt::Absent,
+    }
+}

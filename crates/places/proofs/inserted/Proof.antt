@@ -1,0 +1,104 @@
+-- `inserted`: below `k` the array has the places of the longer list, and `carried` is the next of it.
+use Prim.Native.Nat.{suc, _≤_, _<_, _+_, _-_}
+use mathlib.Core.Path.{_≡_, refl, sym, _∙_}
+use native.Mathlib.Numerals.{add-one}
+use native.Mathlib.Omega.{arith}
+use borrow.Author.Needs.{needs}
+use lib.ListN.{length, take, getD, length-set, length-take}
+use lib.Ieee.{nan}
+use Rattle.definition.specs.Lists.{insertAt}
+use Rattle.likelihood.specs.Arrays.{over}
+use Rattle.likelihood.specs.Laws.{over-suc, over-past, over-take}
+use Rattle.places.proofs.Laws.{insert-length, insert-start, insert-at, insert-past, insert-take}
+use Rattle.places.proofs.inserted.Statement.{statement}
+use Rattle.places.proofs.inserted.Tie as tie
+
+abbrev Inv-loop : tie.InvT-loop
+Inv-loop n i x a₀ carried₀ k₀ a carried k =
+    (i ≤ k) × (k ≤ n + 1) × (length a₀ ≡ 64) × (length a ≡ 64) × (a ≡ over (take k (insertAt i x a₀)) a₀) × (carried ≡ getD (insertAt i x a₀) k nan)
+
+abbrev μ-loop : tie.MeasureT-loop
+μ-loop n i x a₀ carried₀ k₀ a carried k = (n + 1) - k
+
+returns : tie.Need-returns Inv-loop μ-loop
+returns c = (λ g h. absurd (omega arith), λ g. refl, λ g. refl)
+
+returns-2 : tie.Need-returns-2 Inv-loop μ-loop
+returns-2 c = (λ g h. absurd (omega arith), λ g. refl, λ g. refl)
+
+loop-holds : tie.Need-loop-holds Inv-loop μ-loop
+loop-holds c =
+    let old = c .before .before .args .old in
+    let i = c .before .before .args .i in
+    let x = c .before .before .args .x in
+    let l : length old ≡ 64 = search needs in
+    (omega arith, omega arith, l, l, sym (insert-start x old i (omega arith)), sym (insert-at x old i nan (omega arith)))
+
+mul-next : tie.Need-mul-next Inv-loop μ-loop
+mul-next c = search needs
+
+array-read-next : tie.Need-array-read-next Inv-loop μ-loop
+array-read-next c = search needs
+
+mul-a : tie.Need-mul-a Inv-loop μ-loop
+mul-a c = search needs
+
+array-write-a : tie.Need-array-write-a Inv-loop μ-loop
+array-write-a c = search needs
+
+add-k : tie.Need-add-k Inv-loop μ-loop
+add-k c = search needs
+
+loop-less : tie.Need-loop-less Inv-loop μ-loop
+loop-less c = search needs
+
+loop-again : tie.Need-loop-again Inv-loop μ-loop
+loop-again c =
+    let h = c .before .loop .inv in
+    let k = c .before .loop .k in
+    let args = c .before .before .before .before .args in
+    let old = args .old in
+    let longer = insertAt (args .i) (args .x) old in
+    let m = insert-length (args .x) old (args .i) in
+    let t = length-take k longer in (
+      omega arith,
+      omega arith,
+      h .2,
+      rw length-set (h .3),
+      rw (add-one, h .4, h .5) (over-suc longer old k nan (omega arith) (omega arith)),
+      rw (add-one, h .4) (over-past (take k longer) old k nan (omega arith) ∙ sym (insert-past (args .x) old (args .i) k nan (omega arith) (omega arith))),
+    )
+
+returns-3 : tie.Need-returns-3 Inv-loop μ-loop
+returns-3 c =
+    let h = c .before .loop .inv in
+    let k = c .before .loop .k in
+    let args = c .before .before .before .before .args in
+    let old = args .old in
+    let longer = insertAt (args .i) (args .x) old in
+    let m = insert-length (args .x) old (args .i) in
+    let t = length-take k longer in
+    let e : args .n + 1 ≡ k = omega arith in
+    let f : k ≡ suc (args .n) = omega arith in (
+      λ g u. rw (e, h .4) (over-take (take k longer) old k (omega arith) (omega arith) ∙ rw f (insert-take (args .x) old (args .i) (args .n) (omega arith) (omega arith))),
+      λ g. absurd (omega arith),
+      λ g. absurd (omega arith),
+    )
+
+pub inserted-spec : {M : Type 1} → statement M
+inserted-spec =
+    tie.close
+    (tie.spec
+    Inv-loop
+    μ-loop
+    returns
+    returns-2
+    loop-holds
+    mul-next
+    array-read-next
+    mul-a
+    array-write-a
+    add-k
+    loop-less
+    loop-again
+    returns-3)

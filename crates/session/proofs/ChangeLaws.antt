@@ -1,0 +1,259 @@
+-- A change of the requested distances over plain values: the lists, the rows, and the finished run.
+use Prim.Native.Nat.{ℕ, zero, suc, _+_, _-_, _≤_, _<_}
+use mathlib.Core.Path.{_≡_, refl, sym, ap, _∙_, subst}
+use mathlib.Core.Bool.{Bool, true, false, cond, not, _&&_}
+use mathlib.Core.List.{List, [], _∷_}
+use mathlib.Core.Option.{Option, none, some}
+use native.Mathlib.Omega.{arith}
+use native.Mathlib.Numerals.{add-one}
+use lib.Dec.{T, leb, ltb, leb→le, le→leb, ltb→lt, leb·suc-suc}
+use lib.Ieee.{Float}
+use lib.Ieee.Fits.{and-i, and-l, and-r}
+use lib.ListN.{length, take, set, length-take}
+use lib.Seq.{take-set-lt}
+use Rattle.definition.specs.Lists.{insertAt, removeAt, zipWith}
+use Rattle.definition.specs.Request.{Requested}
+use Rattle.definition.specs.Likelihood.{Rows}
+use Rattle.definition.specs.Summary.{Finished}
+use Rattle.definition.specs.Whole.{Edit, putIn, takeOut, exchange, placed, edited, editedNumbers, editedRows, renewed}
+use Rattle.definition.specs.declared.Point.{Point}
+use Rattle.definition.specs.declared.Row.{Row}
+use Rattle.fitting.specs.Meaning.{fitOf}
+use Rattle.report.specs.Places.{requestedAt}
+use Rattle.session.specs.Meaning.{requestedOf, rowsAt, measuredOf, wantedOf, predictedOf, baselineOf, finishedOf, State, asking, standing, over as ended, state, stateAt, withinOf, either}
+use Rattle.session.specs.Reading.{reportIn, standsIn, BandsCount}
+use Rattle.session.specs.Changing.{editOf, rangeOf, sigmaIn, sizeAfter, roomy, rowsFrom, fittedIn, changedFrom, Changed}
+use Rattle.session.specs.declared.Change.{Change}
+use Rattle.session.specs.declared.Change.the-variants.{PutIn, TakeOut, Exchange}
+use Rattle.session.specs.declared.Wanted.{Wanted}
+use Rattle.session.specs.declared.Table.{Table}
+use Rattle.session.specs.declared.Body.{Body}
+use Rattle.session.specs.declared.Phase.the-variants.{Ended}
+use Rattle.session.specs.declared.Session.{Session}
+use Rattle.session.proofs.Laws.{state-within, left-within}
+use Rattle.session.proofs.Steps.{shots-within, wanted-within}
+use Rattle.session.proofs.ReadLaws.{is-standing, not-standing, standing-within}
+
+-- ---- two lists changed alike
+
+module _ {A B C : Type 0} (f : A → B → C) where
+  zip-insert : (xs : List A) (ys : List B) (i : ℕ) (x : A) (y : B) → length xs ≡ length ys → zipWith f (insertAt i x xs) (insertAt i y ys) ≡ insertAt i (f x y) (zipWith f xs ys)
+  zip-insert xs ys zero x y e = refl
+  zip-insert [] [] (suc i) x y e = refl
+  zip-insert [] (b ∷ ys) (suc i) x y e = absurd (omega arith)
+  zip-insert (a ∷ xs) [] (suc i) x y e = absurd (omega arith)
+  zip-insert (a ∷ xs) (b ∷ ys) (suc i) x y e = ap (λ (l : List C). f a b ∷ l) (zip-insert xs ys i x y (omega arith))
+
+  zip-remove : (xs : List A) (ys : List B) (i : ℕ) → length xs ≡ length ys → zipWith f (removeAt i xs) (removeAt i ys) ≡ removeAt i (zipWith f xs ys)
+  zip-remove [] [] i e = refl
+  zip-remove [] (b ∷ ys) i e = absurd (omega arith)
+  zip-remove (a ∷ xs) [] i e = absurd (omega arith)
+  zip-remove (a ∷ xs) (b ∷ ys) zero e = refl
+  zip-remove (a ∷ xs) (b ∷ ys) (suc i) e = ap (λ (l : List C). f a b ∷ l) (zip-remove xs ys i (omega arith))
+
+  zip-set : (xs : List A) (ys : List B) (i : ℕ) (x : A) (y : B) → length xs ≡ length ys → zipWith f (set xs i x) (set ys i y) ≡ set (zipWith f xs ys) i (f x y)
+  zip-set [] [] i x y e = refl
+  zip-set [] (b ∷ ys) i x y e = absurd (omega arith)
+  zip-set (a ∷ xs) [] i x y e = absurd (omega arith)
+  zip-set (a ∷ xs) (b ∷ ys) zero x y e = refl
+  zip-set (a ∷ xs) (b ∷ ys) (suc i) x y e = ap (λ (l : List C). f a b ∷ l) (zip-set xs ys i x y (omega arith))
+
+-- a list of distances and one of sigmas, changed alike, are the edited list of requested distances
+pub edited-zip : (x : Change) (xs ys : List Float) → length xs ≡ length ys
+    → zipWith requestedAt (editedNumbers (editOf x) (rangeOf x) xs) (editedNumbers (editOf x) (sigmaIn x) ys) ≡ edited (editOf x) (zipWith requestedAt xs ys)
+edited-zip (PutIn i range sigma) xs ys e = zip-insert requestedAt xs ys (i - 1) range sigma e
+edited-zip (TakeOut i) xs ys e = zip-remove requestedAt xs ys (i - 1) e
+edited-zip (Exchange i range sigma) xs ys e = zip-set requestedAt xs ys (i - 1) range sigma e
+
+-- ---- the first places of an array
+
+module _ (a b : Bool) where
+  left-of : T (a && b) → T a
+  left-of t = and-l a b t
+
+  right-of : T (a && b) → T b
+  right-of t = and-r a b t
+
+module _ (old r : List Float) (n i j : ℕ) (x : Float) (at : j ≡ i - 1) where
+  pub put-places : (j ≤ n → n < 64 → take (n + 1) r ≡ insertAt j x (take n old)) → T (leb 1 i && leb i (n + 1)) → T (ltb n 64) → take (suc n) r ≡ insertAt (i - 1) x (take n old)
+  put-places e p h =
+      let lo = leb→le 1 i (left-of (leb 1 i) (leb i (n + 1)) p) in
+      let hi = leb→le i (n + 1) (right-of (leb 1 i) (leb i (n + 1)) p) in
+      let room = ltb→lt n 64 h in
+      ap (λ (m : ℕ). take m r) (sym (add-one n)) ∙ e (omega arith) room ∙ ap (λ (m : ℕ). insertAt m x (take n old)) at
+
+  pub took-places : (j < n → n ≤ 64 → take (n - 1) r ≡ removeAt j (take n old)) → n ≤ 64 → T (leb 1 i && leb i n) → take (n - 1) r ≡ removeAt (i - 1) (take n old)
+  took-places e h p =
+      let lo = leb→le 1 i (left-of (leb 1 i) (leb i n) p) in
+      let hi = leb→le i n (right-of (leb 1 i) (leb i n) p) in
+      e (omega arith) h ∙ ap (λ (m : ℕ). removeAt m (take n old)) at
+
+  pub set-places : r ≡ set old j x → T (leb 1 i && leb i n) → take n r ≡ set (take n old) (i - 1) x
+  set-places e p =
+      let lo = leb→le 1 i (left-of (leb 1 i) (leb i n) p) in
+      let hi = leb→le i n (right-of (leb 1 i) (leb i n) p) in
+      ap (λ (l : List Float). take n l) e ∙ take-set-lt n old j x (omega arith) ∙ ap (λ (m : ℕ). set (take n old) m x) at
+
+-- ---- whether a place is one of the list
+
+-- a place is the one after the last, or before it, where the index is within the list
+before-end : (i n : ℕ) → (leb 1 i && leb (i - 1) n) ≡ (leb 1 i && leb i (n + 1))
+before-end zero n = refl
+before-end (suc i) n =
+    let e : suc i - 1 ≡ i = omega arith in
+    ap (λ (m : ℕ). leb 1 (suc i) && leb m n) e
+    ∙ ap (λ (t : Bool). leb 1 (suc i) && t) (sym (leb·suc-suc i n))
+    ∙ ap (λ (m : ℕ). leb 1 (suc i) && leb (suc i) m) (sym (add-one n))
+
+pub placed-put : (x : Change) (n i j : ℕ) (range sigma : Float) → x ≡ PutIn i range sigma → j ≡ i - 1 → (leb 1 i && leb j n) ≡ placed (editOf x) n
+placed-put x n i j range sigma e k = ap (λ (m : ℕ). leb 1 i && leb m n) k ∙ before-end i n ∙ sym (ap (λ (y : Change). placed (editOf y) n) e)
+
+pub placed-as : (x : Change) (y : Change) (n : ℕ) → x ≡ y → placed (editOf y) n ≡ placed (editOf x) n
+placed-as x y n e = ap (λ (z : Change). placed (editOf z) n) (sym e)
+
+-- ---- the list and the rows
+
+pub wanted-changed : (w : Wanted) (x : Change) (ranges sigmas : List Float) (n : ℕ) (range sigma : Float) → length (w .ranges) ≡ 64 → length (w .sigmas) ≡ 64
+    → n ≡ sizeAfter (editOf x) (w .n) → range ≡ rangeOf x → sigma ≡ sigmaIn x
+    → take (sizeAfter (editOf x) (w .n)) ranges ≡ editedNumbers (editOf x) range (take (w .n) (w .ranges))
+    → take (sizeAfter (editOf x) (w .n)) sigmas ≡ editedNumbers (editOf x) sigma (take (w .n) (w .sigmas))
+    → requestedOf (record { ranges = ranges; sigmas = sigmas; n = n }) ≡ edited (editOf x) (requestedOf w)
+wanted-changed w x ranges sigmas n range sigma lr ls size re se r s =
+    let e = editOf x in
+    let a = length-take (w .n) (w .ranges) in
+    let b = length-take (w .n) (w .sigmas) in
+    ap (λ (m : ℕ). zipWith requestedAt (take m ranges) (take m sigmas)) size
+    ∙ ap (λ (l : List Float). zipWith requestedAt l (take (sizeAfter e (w .n)) sigmas)) r
+    ∙ ap (λ (l : List Float). zipWith requestedAt (editedNumbers e range (take (w .n) (w .ranges))) l) s
+    ∙ ap (λ (y : Float). zipWith requestedAt (editedNumbers e y (take (w .n) (w .ranges))) (editedNumbers e sigma (take (w .n) (w .sigmas)))) re
+    ∙ ap (λ (y : Float). zipWith requestedAt (editedNumbers e (rangeOf x) (take (w .n) (w .ranges))) (editedNumbers e y (take (w .n) (w .sigmas)))) se
+    ∙ edited-zip x (take (w .n) (w .ranges)) (take (w .n) (w .sigmas)) (omega arith)
+
+pub table-changed : (t : Table) (n : ℕ) (e : Edit) (row : Row) (predicted byMv byBc : List Float)
+    → take (sizeAfter e n) predicted ≡ editedNumbers e (row .«predicted_drop») (take n (t .predicted))
+    → take (sizeAfter e n) byMv ≡ editedNumbers e (row .«d_drop_d_mv») (take n (t .«by_mv»))
+    → take (sizeAfter e n) byBc ≡ editedNumbers e (row .«d_drop_d_bc») (take n (t .«by_bc»))
+    → rowsAt (sizeAfter e n) (record { predicted = predicted; «by_mv» = byMv; «by_bc» = byBc; gap = 0 }) ≡ editedRows e (rowsFrom row) (rowsAt n t)
+table-changed t n e row predicted byMv byBc p m b = λ i. record { predicted = p i; byMv = m i; byBc = b i; gap = 0 }
+
+-- ---- the finished run
+
+abbrev pub withList : Body → Wanted → Table → Body
+withList b w t = record {
+  shots = b .shots;
+  entered = b .entered;
+  priors = b .priors;
+  wanted = w;
+  table = t;
+  progress = b .progress;
+  predicted = b .predicted;
+  baseline = b .baseline;
+  «has_baseline» = b .«has_baseline»;
+}
+
+abbrev pub endedWith : Body → ℕ → Session
+endedWith b n = record { body = b; phase = Ended; asked = n }
+
+size-within : (e : Edit) (n : ℕ) → n ≤ 64 → T (roomy e n) → sizeAfter e n ≤ 64
+size-within (putIn i d) n h r = let l = ltb→lt n 64 r in omega arith
+size-within (takeOut i) n h r = omega arith
+size-within (exchange i d) n h r = h
+
+module _ (s : Session) (x : Change) (row : Row) where
+  pub not-changed : (r : Session) → standsIn s ≡ false → r ≡ s → Changed s (editOf x) (rowsFrom row) r
+  not-changed r f same = record { is = by (state s) (not-standing s f) }
+    where
+      by : (t : State) → reportIn t ≡ none → changedFrom t s (editOf x) (rowsFrom row) r
+      by (asking kept t) g = same
+      by (standing c) g = let z : _≡_ {A = ℕ} 0 1 = cc in absurd (omega arith)
+      by ended g = same
+
+  module _ (st : standsIn s ≡ true) (n : ℕ) (count : BandsCount (s .body .wanted) (s .body .table) n) where
+    within : T (withinOf (s .body))
+    within = standing-within s st
+
+    few : s .body .wanted .n ≤ 64
+    few = wanted-within (s .body) within
+
+    counted : length (wantedOf (s .body)) ≡ n
+    counted = count .requested few
+
+    abbrev Fits : Session → Bool → Type 0
+    Fits r t = either t ((state r ≡ standing (renewed (finishedOf (s .body)) (editOf x) (rowsFrom row))) × (r .asked ≡ s .asked)) (r ≡ s)
+
+    by-fitting : (r : Session) → Fits r (placed (editOf x) n && roomy (editOf x) n) → Changed s (editOf x) (rowsFrom row) r
+    by-fitting r f = record {
+      is =
+          subst (λ (u : State). changedFrom u s (editOf x) (rowsFrom row) r) (sym (is-standing s st))
+          (subst (λ (m : ℕ). Fits r (placed (editOf x) m && roomy (editOf x) m)) (sym counted) f);
+    }
+
+    -- the edit does not fit the list
+    pub not-placed : (r : Session) → placed (editOf x) n ≡ false → r ≡ s → Changed s (editOf x) (rowsFrom row) r
+    not-placed r f same = by-fitting r (subst (λ (t : Bool). Fits r (t && roomy (editOf x) n)) (sym f) same)
+
+    pub no-room : (r : Session) → placed (editOf x) n ≡ true → roomy (editOf x) n ≡ false → r ≡ s → Changed s (editOf x) (rowsFrom row) r
+    no-room r p f same =
+        by-fitting r (subst (λ (t : Bool). Fits r (t && roomy (editOf x) n)) (sym p) (subst (λ (t : Bool). Fits r (true && t)) (sym f) same))
+
+    -- it does: what the functions that change the arrays ask for
+    pub fits-places : T (placed (editOf x) n) → T (roomy (editOf x) n)
+        → (s .body .wanted .n ≤ 64) × T (placed (editOf x) (s .body .wanted .n)) × T (roomy (editOf x) (s .body .wanted .n))
+    fits-places p f =
+        (few, subst (λ (m : ℕ). T (placed (editOf x) m)) (count .places) p, subst (λ (m : ℕ). T (roomy (editOf x) m)) (count .places) f)
+
+    pub fits-rows : T (placed (editOf x) n) → T (roomy (editOf x) n) → (n ≤ 64) × T (placed (editOf x) n) × T (roomy (editOf x) n)
+    fits-rows p f = (let e = count .places in omega (arith, few), p, f)
+
+    module _ (w : Wanted) (t : Table) (p : T (placed (editOf x) n)) (f : T (roomy (editOf x) n))
+        (list : requestedOf w ≡ edited (editOf x) (requestedOf (s .body .wanted))) (size : w .n ≡ sizeAfter (editOf x) (s .body .wanted .n))
+        (rows : rowsAt (sizeAfter (editOf x) n) t ≡ editedRows (editOf x) (rowsFrom row) (rowsAt n (s .body .table))) where
+      next-within : T (withinOf (withList (s .body) w t))
+      next-within =
+          let m = size-within (editOf x) (s .body .wanted .n) few (fits-places p f .2) in
+          and-i (leb (s .body .shots .n) 64 && leb (w .n) 64) (leb (s .body .progress .left) 100)
+          (and-i (leb (s .body .shots .n) 64) (leb (w .n) 64) (le→leb (s .body .shots .n) 64 (shots-within (s .body) within)) (le→leb (w .n) 64 (omega arith)))
+          (le→leb (s .body .progress .left) 100 (left-within (s .body) within))
+
+      same-size : w .n ≡ sizeAfter (editOf x) n
+      same-size = size ∙ ap (sizeAfter (editOf x)) (sym (count .places))
+
+      new-rows : rowsAt (w .n) t ≡ editedRows (editOf x) (rowsFrom row) (rowsAt (s .body .wanted .n) (s .body .table))
+      new-rows = ap (λ (m : ℕ). rowsAt m t) same-size ∙ rows ∙ ap (λ (m : ℕ). editedRows (editOf x) (rowsFrom row) (rowsAt m (s .body .table))) (count .places)
+
+      new-finished : finishedOf (withList (s .body) w t) ≡ renewed (finishedOf (s .body)) (editOf x) (rowsFrom row)
+      new-finished = λ i. record {
+        measured = measuredOf (s .body);
+        fit = fitOf (s .body .progress);
+        evaluation = s .body .progress .evaluation;
+        predicted = predictedOf (s .body);
+        requested = list i;
+        bandRows = new-rows i;
+        baseline = baselineOf (s .body);
+      }
+
+      pub is-changed : (r : Session) → r ≡ endedWith (withList (s .body) w t) (s .asked) → Changed s (editOf x) (rowsFrom row) r
+      is-changed r e =
+          by-fitting r
+          (subst (λ (u : Bool). Fits r u) (sym (both (placed (editOf x) n) (roomy (editOf x) n) p f))
+          (ap state e ∙ state-within (endedWith (withList (s .body) w t) (s .asked)) next-within ∙ ap standing new-finished, ap (λ (u : Session). u .asked) e))
+        where
+          both : (a b : Bool) → T a → T b → (a && b) ≡ true
+          both true true p f = refl
+          both true false p f = absurd f
+          both false b p f = absurd p
+
+-- ---- the fit of a finished run
+
+pub fitted-none : (s : Session) → standsIn s ≡ false → none ≡ fittedIn (state s)
+fitted-none s f = by (state s) (not-standing s f)
+  where
+    by : (t : State) → reportIn t ≡ none → none ≡ fittedIn t
+    by (asking kept t) g = refl
+    by (standing c) g = let z : _≡_ {A = ℕ} 0 1 = cc in absurd (omega arith)
+    by ended g = refl
+
+pub fitted-some : (s : Session) (n : ℕ) → standsIn s ≡ true → BandsCount (s .body .wanted) (s .body .table) n → some (s .body .progress .point, n) ≡ fittedIn (state s)
+fitted-some s n st count =
+    ap (λ (m : ℕ). some (s .body .progress .point, m)) (sym (count .requested (wanted-within (s .body) (standing-within s st))))
+    ∙ sym (ap fittedIn (is-standing s st))
