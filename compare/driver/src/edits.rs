@@ -9,7 +9,7 @@ use crate::rng::Rng;
 use crate::write;
 use estimator::{Opening, Requested, Variant, LIMIT};
 use oracle::form::Edit;
-use oracle::{Host, Options};
+use oracle::Host;
 
 /// What a session opened with this list ends in, as its line.
 fn fresh(case: &Case, list: &[Requested]) -> String {
@@ -79,8 +79,7 @@ pub fn play(case: &Case, line: &mut u64) -> (Script, Vec<String>, u64) {
         closed: false,
     };
     keeper.calls_left = keeper.rng.between(1, 8);
-    let options = Options { variant: Variant::Recipes, edits: true };
-    oracle::serve(&mut keeper, options, line);
+    oracle::serve(&mut keeper, Variant::Recipes, line);
     (keeper.script, keeper.faults, keeper.ended)
 }
 

@@ -17,8 +17,6 @@ use std::path::{Path, PathBuf};
 use std::process::ExitCode;
 
 use case::Case;
-use estimator::Variant;
-use oracle::Options;
 use program::{Difference, Program};
 use tally::Tally;
 
@@ -26,11 +24,10 @@ struct Arguments {
     words: Vec<String>,
     program: Option<PathBuf>,
     untouched: bool,
-    edits: bool,
 }
 
 fn arguments() -> Result<Arguments, String> {
-    let mut found = Arguments { words: Vec::new(), program: None, untouched: false, edits: true };
+    let mut found = Arguments { words: Vec::new(), program: None, untouched: false };
     let mut rest = std::env::args().skip(1);
     while let Some(argument) = rest.next() {
         match argument.as_str() {
@@ -39,7 +36,6 @@ fn arguments() -> Result<Arguments, String> {
                 found.program = Some(PathBuf::from(path));
             }
             "--untouched" => found.untouched = true,
-            "--no-edits" => found.edits = false,
             option if option.starts_with('-') => return Err(format!("unknown option {option}")),
             _ => found.words.push(argument),
         }
@@ -50,11 +46,10 @@ fn arguments() -> Result<Arguments, String> {
 /// The program under test; without one, the oracle compared with itself.
 fn program(arguments: &Arguments) -> Program {
     match &arguments.program {
-        Some(path) => Program::new(path.clone(), Vec::new()),
+        Some(path) => Program::new(path.clone()),
         None => {
             let own = std::env::current_exe().expect("the path of this program");
-            let options = if arguments.edits { vec![] } else { vec!["--no-edits".to_string()] };
-            Program::new(own.with_file_name("oracle"), options)
+            Program::new(own.with_file_name("oracle"))
         }
     }
 }
@@ -72,12 +67,12 @@ fn main() -> ExitCode {
         match words.first().filter(|_| named == 1).map(String::as_str) {
             Some("sample") => {
                 let directory = words.get(1).ok_or("sample wants a directory")?;
-                let written = sample::write(Path::new(directory), arguments.edits);
+                let written = sample::write(Path::new(directory));
                 written.map(|()| true).map_err(|e| format!("{directory}: {e}"))
             }
             Some("show") => {
                 let index = number(words.get(1), 0)?;
-                show(&arguments, index, number(words.get(2), 1)?);
+                show(index, number(words.get(2), 1)?);
                 Ok(true)
             }
             Some("edits") => Ok(edited(&arguments, count()?, seed()?)),
@@ -113,11 +108,10 @@ fn case_seed(seed: u64, index: u64) -> u64 {
 }
 
 /// Prints one random case's conversation.
-fn show(arguments: &Arguments, index: u64, seed: u64) {
-    let options = Options { variant: Variant::Recipes, edits: arguments.edits };
+fn show(index: u64, seed: u64) {
     let case = Case::random(case_seed(seed, index));
     println!("{:?}", case.solver);
-    let script = player::play(&case, options, &mut 0);
+    let script = player::play(&case, &mut 0);
     for (line, answer) in script.lines.iter().zip(&script.answers) {
         println!("> {}", String::from_utf8_lossy(line));
         answer.iter().for_each(|answer| println!("< {answer}"));
@@ -128,7 +122,6 @@ fn show(arguments: &Arguments, index: u64, seed: u64) {
 const SILENCES: u64 = 3;
 
 fn random(arguments: &Arguments, count: u64, seed: u64) -> bool {
-    let options = Options { variant: Variant::Recipes, edits: arguments.edits };
     let mut program = program(arguments);
     let mut tally = Tally::default();
     let (mut differ, mut silent, mut line) = (0, 0, 0);
@@ -137,7 +130,7 @@ fn random(arguments: &Arguments, count: u64, seed: u64) -> bool {
             line = 0;
         }
         let case = Case::random(case_seed(seed, index));
-        let script = player::play(&case, options, &mut line);
+        let script = player::play(&case, &mut line);
         tally.add(&script);
         // One case in eight is a conversation, the others are written ahead.
         if let Err(difference) = program.play(&script, index % 8 == 0) {
@@ -155,7 +148,7 @@ fn random(arguments: &Arguments, count: u64, seed: u64) -> bool {
         }
     }
     let ended = end(&mut program, line);
-    let all = tally.print(arguments.edits);
+    let all = tally.print();
     println!("{} equal, {differ} differ", count - differ);
     all && ended && differ == 0
 }
@@ -185,7 +178,7 @@ fn edited(arguments: &Arguments, count: u64, seed: u64) -> bool {
         }
     }
     let finished = end(&mut program, line);
-    tally.print(true);
+    tally.print();
     println!("{ended} edits ended, each compared with a fresh run");
     println!("{} equal, {differ} differ", count - differ);
     finished && differ == 0

@@ -7,7 +7,7 @@ use crate::rng::Rng;
 use crate::write;
 use estimator::{hex, Requested, Variant};
 use oracle::form::Edit;
-use oracle::{Host, Options};
+use oracle::Host;
 
 /// A conversation: the host's lines, and the answer to each that has one.
 #[derive(Default)]
@@ -55,7 +55,7 @@ struct Player {
 }
 
 /// Plays a case; `line` goes on counting the lines.
-pub fn play(case: &Case, options: Options, line: &mut u64) -> Script {
+pub fn play(case: &Case, line: &mut u64) -> Script {
     let mut player = Player {
         rng: Rng::new(case.seed ^ 0x5eed),
         queue: VecDeque::new(),
@@ -76,12 +76,12 @@ pub fn play(case: &Case, options: Options, line: &mut u64) -> Script {
         }
         player.queue.push_back(text.into_bytes());
     }
-    oracle::serve(&mut player, options, line);
+    oracle::serve(&mut player, Variant::Recipes, line);
     player.script
 }
 
 /// The recipes' answers to lines that are given beforehand.
-pub fn recite(lines: &[Vec<u8>], edits: bool, line: &mut u64) -> Vec<Option<String>> {
+pub fn recite(lines: &[Vec<u8>], line: &mut u64) -> Vec<Option<String>> {
     struct Reciter<'a> {
         lines: std::slice::Iter<'a, Vec<u8>>,
         answers: Vec<Option<String>>,
@@ -97,8 +97,7 @@ pub fn recite(lines: &[Vec<u8>], edits: bool, line: &mut u64) -> Vec<Option<Stri
         }
     }
     let mut reciter = Reciter { lines: lines.iter(), answers: Vec::new() };
-    let options = Options { variant: Variant::Recipes, edits };
-    oracle::serve(&mut reciter, options, line);
+    oracle::serve(&mut reciter, Variant::Recipes, line);
     reciter.answers
 }
 

@@ -10,7 +10,6 @@ use crate::player::Script;
 
 pub struct Program {
     path: PathBuf,
-    arguments: Vec<String>,
     running: Option<Running>,
     pub patience: Duration,
 }
@@ -32,8 +31,8 @@ pub struct Difference {
 }
 
 impl Program {
-    pub fn new(path: PathBuf, arguments: Vec<String>) -> Self {
-        Program { path, arguments, running: None, patience: Duration::from_secs(20) }
+    pub fn new(path: PathBuf) -> Self {
+        Program { path, running: None, patience: Duration::from_secs(20) }
     }
 
     /// Whether the next line is the first that the process reads.
@@ -44,7 +43,6 @@ impl Program {
     fn start(&mut self) -> &mut Running {
         self.running.get_or_insert_with(|| {
             let mut child = Command::new(&self.path)
-                .args(&self.arguments)
                 .stdin(Stdio::piped())
                 .stdout(Stdio::piped())
                 .spawn()

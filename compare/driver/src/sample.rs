@@ -9,8 +9,7 @@ use crate::rng::mix;
 use crate::solver::{Base, Gap, Slip, Solver};
 use crate::tally::Tally;
 use crate::write;
-use estimator::{Opening, Requested, Variant};
-use oracle::Options;
+use estimator::{Opening, Requested};
 
 /// About how many bytes the two files may have together.
 const BYTES: usize = 400_000;
@@ -98,7 +97,7 @@ pub fn named() -> Vec<(&'static str, Case)> {
 }
 
 /// Lines that need no host's wit: forms, their order, and a session's corners.
-fn plain_lines(edits: bool) -> Vec<String> {
+fn plain_lines() -> Vec<String> {
     let ten = "4024000000000000";
     let point = write::entered([2000.0, 0.3]);
     let shots = [write::shot([100.0, 10.0, 1.0]), write::shot([200.0, 11.0, 1.0])];
@@ -229,25 +228,23 @@ fn plain_lines(edits: bool) -> Vec<String> {
     say(&put("3", 150.0, "none"));
     say(&put("2", 0.0, "none"));
     say(&put("1", 150.0, "8000000000000000"));
-    if edits {
-        let one = format!("(drops {ten})");
-        let mut five = |first: String, replies: [&str; 5]| {
-            say(&first);
-            for reply in replies {
-                say(reply);
-            }
-        };
-        five(put("2", 250.0, "3ff0000000000000"), [&one; 5]);
-        five(put("1", 50.0, "none"), [&one, &one, "(drops missing)", &one, &one]);
-        five(put("1", 50.0, "none"), [&one, "(refused)", &one, &one, "(asked)"]);
-        five(put("1", 50.0, "none"), [&one, &reply, "(take-out 1)", "(asked)", &one]);
-        five("(drops)".to_string(), [&one, &one, &one, "(take-out 3)", "(take-out 2)"]);
-        five("(exchange 1 4069000000000000 none)".to_string(), [&one; 5]);
-        five(
-            "(take-out 1)".to_string(),
-            ["(take-out 1)", "(take-out 1)", "(asked)", "(asked)", "(drops)"],
-        );
-    }
+    let one = format!("(drops {ten})");
+    let mut five = |first: String, replies: [&str; 5]| {
+        say(&first);
+        for reply in replies {
+            say(reply);
+        }
+    };
+    five(put("2", 250.0, "3ff0000000000000"), [&one; 5]);
+    five(put("1", 50.0, "none"), [&one, &one, "(drops missing)", &one, &one]);
+    five(put("1", 50.0, "none"), [&one, "(refused)", &one, &one, "(asked)"]);
+    five(put("1", 50.0, "none"), [&one, &reply, "(take-out 1)", "(asked)", &one]);
+    five("(drops)".to_string(), [&one, &one, &one, "(take-out 3)", "(take-out 2)"]);
+    five("(exchange 1 4069000000000000 none)".to_string(), [&one; 5]);
+    five(
+        "(take-out 1)".to_string(),
+        ["(take-out 1)", "(take-out 1)", "(asked)", "(asked)", "(drops)"],
+    );
     // The request from the middle is still being made.
     say(&shots[1]);
     say("(open plain)");
@@ -356,25 +353,24 @@ fn size(script: &Script) -> usize {
 }
 
 /// Writes `stdin`, `stdout` and `cases`, the first line and name of each case.
-pub fn write(directory: &Path, edits: bool) -> io::Result<()> {
-    let options = Options { variant: Variant::Recipes, edits };
+pub fn write(directory: &Path) -> io::Result<()> {
     let mut scripts: Vec<(String, Script)> = Vec::new();
     let mut line = 0;
 
-    let lines: Vec<Vec<u8>> = plain_lines(edits).into_iter().map(String::into_bytes).collect();
-    let answers = player::recite(&lines, edits, &mut line);
+    let lines: Vec<Vec<u8>> = plain_lines().into_iter().map(String::into_bytes).collect();
+    let answers = player::recite(&lines, &mut line);
     scripts.push(("plain lines".to_string(), Script { lines, answers, closing: 0 }));
     for (name, case) in named() {
-        scripts.push((name.to_string(), player::play(&case, options, &mut line)));
+        scripts.push((name.to_string(), player::play(&case, &mut line)));
     }
     for (i, case) in openings().iter().enumerate() {
         // Some of them are sound: their runs are refused at once, to be short.
         let case = slipped(case.clone(), 1, Slip::Refused);
-        scripts.push((format!("opening {}", i + 1), player::play(&case, options, &mut line)));
+        scripts.push((format!("opening {}", i + 1), player::play(&case, &mut line)));
     }
 
     // Random cases: those that show something new, two polls with a covariance,
-    // then reports, then whatever is small.
+    // edits of a report with one, then reports, then whatever is small.
     let mut tally = Tally::default();
     scripts.iter().for_each(|(_, script)| tally.add(script));
     let mut bytes: usize = scripts.iter().map(|(_, script)| size(script)).sum();
@@ -382,24 +378,33 @@ pub fn write(directory: &Path, edits: bool) -> io::Result<()> {
         script.answers.iter().flatten().any(|answer| answer.contains(what))
     };
     let polled = |s: &Script| has(s, " ObjectiveMesh ") && has(s, "(Available ");
+    let edited = |s: &Script, before: &str| {
+        let answers: Vec<&String> = s.answers.iter().flatten().collect();
+        let ends = |w: &[&String]| w[0].starts_with(before) && w[1].contains("(Available ");
+        answers.windows(2).any(ends)
+    };
     for (pass, most, until, mut left) in [
         (0, 2_500, BYTES, CASES),
         (0, 5_000, BYTES, CASES),
         (0, 12_000, BYTES, CASES),
         (1, 14_000, BYTES, 2),
-        (2, 3_500, BYTES - 12_000, CASES),
-        (3, 900, BYTES, CASES),
+        (2, 9_000, BYTES, 2),
+        (3, 9_000, BYTES, 2),
+        (4, 3_500, BYTES - 12_000, CASES),
+        (5, 900, BYTES, CASES),
     ] {
         for seed in 1..4000 {
             if left == 0 || scripts.len() >= CASES || bytes > until - most {
                 break;
             }
             let mut at = line;
-            let script = player::play(&Case::random(mix(seed)), options, &mut at);
+            let script = player::play(&Case::random(mix(seed)), &mut at);
             let taken = match pass {
                 0 => tally.would_show(&script),
                 1 => polled(&script),
-                2 => has(&script, "(report "),
+                2 => edited(&script, "(question new "),
+                3 => edited(&script, "(report "),
+                4 => has(&script, "(report "),
                 _ => true,
             };
             if size(&script) > most || !taken {
@@ -412,7 +417,7 @@ pub fn write(directory: &Path, edits: bool) -> io::Result<()> {
             scripts.push((format!("random {seed}"), script));
         }
     }
-    tally.print(edits);
+    tally.print();
     println!("{} cases, {bytes} bytes", scripts.len());
 
     std::fs::create_dir_all(directory)?;
@@ -443,7 +448,7 @@ pub fn write(directory: &Path, edits: bool) -> io::Result<()> {
 mod tests {
     use super::*;
     use crate::case::answering;
-    use estimator::{Place, Report};
+    use estimator::{Place, Report, Variant};
 
     struct Seen {
         report: Report,
@@ -607,19 +612,17 @@ mod tests {
     /// The files kept beside this program are those that it writes.
     #[test]
     fn kept_samples() {
-        for (name, edits) in [("edits", true), ("no-edits", false)] {
-            let kept = Path::new(env!("CARGO_MANIFEST_DIR")).join("../samples").join(name);
-            let read = |file: &str| std::fs::read(kept.join(file)).expect(file);
-            let input = read("stdin");
-            let ended = input.strip_suffix(b"\n(asked)").expect("an unended last line");
-            let lines: Vec<Vec<u8>> = ended.split(|b| *b == b'\n').map(<[u8]>::to_vec).collect();
-            let mut found = Vec::new();
-            for answer in player::recite(&lines, edits, &mut 0).into_iter().flatten() {
-                found.extend_from_slice(answer.as_bytes());
-                found.push(b'\n');
-            }
-            found.extend_from_slice(format!("(malformed {})\n", lines.len() + 1).as_bytes());
-            assert!(found == read("stdout"), "{name}");
+        let kept = Path::new(env!("CARGO_MANIFEST_DIR")).join("../samples");
+        let read = |file: &str| std::fs::read(kept.join(file)).expect(file);
+        let input = read("stdin");
+        let ended = input.strip_suffix(b"\n(asked)").expect("an unended last line");
+        let lines: Vec<Vec<u8>> = ended.split(|b| *b == b'\n').map(<[u8]>::to_vec).collect();
+        let mut found = Vec::new();
+        for answer in player::recite(&lines, &mut 0).into_iter().flatten() {
+            found.extend_from_slice(answer.as_bytes());
+            found.push(b'\n');
         }
+        found.extend_from_slice(format!("(malformed {})\n", lines.len() + 1).as_bytes());
+        assert!(found == read("stdout"));
     }
 }

@@ -92,18 +92,17 @@ impl Tally {
     }
 
     /// Prints the counts; says whether every one occurred and the papers' claims hold.
-    pub fn print(&self, edits: bool) -> bool {
+    pub fn print(&self) -> bool {
         println!(
             "{} lines, {} questions (at most {} in a run), {} malformed lines, {} reports ({} without a baseline)",
             self.lines, self.questions, self.most_questions, self.malformed, self.reports, self.no_baseline
         );
-        let last = if edits { 15 } else { 13 };
         let mut all = true;
         let mut row = |name: String, count: u64| {
             all &= count > 0;
             println!("{name:<52}{count:>10}{}", if count == 0 { "  never" } else { "" });
         };
-        for number in 1..=last {
+        for number in 1..=15 {
             row(format!("refusal {number}"), self.declined[number]);
         }
         for (count, name) in self.criteria.iter().zip(CRITERIA) {

@@ -15,18 +15,11 @@ pub trait Host {
     fn answer(&mut self, text: &str);
 }
 
-#[derive(Debug, Clone, Copy)]
-pub struct Options {
-    pub variant: Variant,
-    /// Without edits their lines are malformed.
-    pub edits: bool,
-}
-
 /// Serves a host until its end.  `line` is the number of the last line read.
-pub fn serve(host: &mut dyn Host, options: Options, line: &mut u64) {
+pub fn serve(host: &mut dyn Host, variant: Variant, line: &mut u64) {
     let mut desk = Desk {
         host,
-        options,
+        variant,
         line,
         request: Opening::default(),
         due: Due::Nothing,
@@ -64,7 +57,7 @@ enum Due {
 
 struct Desk<'h> {
     host: &'h mut dyn Host,
-    options: Options,
+    variant: Variant,
     line: &'h mut u64,
     request: Opening,
     due: Due,
@@ -104,7 +97,7 @@ impl Desk<'_> {
             match form {
                 Some(Form::Drops(entries)) => return Call::Reply(Some(entries)),
                 Some(Form::Refused) => return Call::Reply(None),
-                Some(Form::Edit(edit)) if self.options.edits => return Call::Edit(edit),
+                Some(Form::Edit(edit)) => return Call::Edit(edit),
                 Some(Form::Asked) => self.say(&format!("(asked {})", self.asked)),
                 Some(Form::Open) if self.due > Due::Nothing => {
                     self.due = Due::Nothing;
@@ -173,22 +166,21 @@ impl Desk<'_> {
         let mut shots = Vec::new();
         let mut rows = vec![[0.0; 5]; opening.distances.len()];
         let mut column = 0;
-        let outcome =
-            estimator::run(self.options.variant, &opening, &mut |place, mv, bc, wanted| {
-                self.asked += 1;
-                let list = if place == Place::Bands { "distances" } else { "shots" };
-                let reply = self.ask(list, mv, bc, wanted);
-                if place != Place::Bands {
-                    shots.push(reply.clone());
-                } else if let Some(entries) = &reply {
-                    for (row, entry) in rows.iter_mut().zip(entries) {
-                        // A gap ends the run, so its row is never used.
-                        row[column] = entry.unwrap_or(f64::NAN);
-                    }
-                    column += 1;
+        let outcome = estimator::run(self.variant, &opening, &mut |place, mv, bc, wanted| {
+            self.asked += 1;
+            let list = if place == Place::Bands { "distances" } else { "shots" };
+            let reply = self.ask(list, mv, bc, wanted);
+            if place != Place::Bands {
+                shots.push(reply.clone());
+            } else if let Some(entries) = &reply {
+                for (row, entry) in rows.iter_mut().zip(entries) {
+                    // A gap ends the run, so its row is never used.
+                    row[column] = entry.unwrap_or(f64::NAN);
                 }
-                reply
-            });
+                column += 1;
+            }
+            reply
+        });
         if self.next.is_some() {
             return;
         }
@@ -213,7 +205,7 @@ impl Desk<'_> {
             Ok((distances, rows)) => {
                 standing.opening.distances = distances;
                 standing.rows = rows;
-                let report = standing.again(self.options.variant);
+                let report = standing.again(self.variant);
                 self.say(&report.line);
             }
             Err(refusal) => self.declined(refusal),

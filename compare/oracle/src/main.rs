@@ -1,10 +1,10 @@
-//! `oracle [--untouched] [--no-edits]`: PROTOCOL.md's lines on standard input,
-//! the answers on standard output.
+//! `oracle [--untouched]`: PROTOCOL.md's lines on standard input, the answers on
+//! standard output.
 
 use std::io::{self, BufRead, BufReader, BufWriter, Write};
 
 use estimator::Variant;
-use oracle::{serve, Host, Options};
+use oracle::{serve, Host};
 
 struct Pipes {
     input: BufReader<io::Stdin>,
@@ -31,11 +31,10 @@ impl Host for Pipes {
 }
 
 fn main() {
-    let mut options = Options { variant: Variant::Recipes, edits: true };
+    let mut variant = Variant::Recipes;
     for argument in std::env::args().skip(1) {
         match argument.as_str() {
-            "--untouched" => options.variant = Variant::Untouched,
-            "--no-edits" => options.edits = false,
+            "--untouched" => variant = Variant::Untouched,
             other => {
                 eprintln!("oracle: unknown argument {other}");
                 std::process::exit(2);
@@ -44,6 +43,6 @@ fn main() {
     }
     let mut pipes =
         Pipes { input: BufReader::new(io::stdin()), output: BufWriter::new(io::stdout()) };
-    serve(&mut pipes, options, &mut 0);
+    serve(&mut pipes, variant, &mut 0);
     let _ = pipes.output.flush();
 }

@@ -4,10 +4,11 @@ use mathlib.Core.List.{List, []}
 use mathlib.Core.Option.{Option, none, some}
 use Rattle.definition.specs.Summary.{Band, Report}
 use Rattle.report.specs.Report.{Results}
-use Rattle.session.specs.Meaning.{state, Kind, ofShots, ofDistances, ofNew, Said, question, report, refusal, said}
+use Rattle.session.specs.Meaning.{Kind, ofShots, ofDistances, ofNew, Said, question, report, refusal, said}
 use Rattle.session.specs.Reading.{reportIn, baselineResults}
-use Rattle.session.specs.declared.Session.{Session}
-use Rattle.session.specs.declared.Answer.{Answer}
+use Rattle.editing.specs.Meaning.{state}
+use Rattle.editing.specs.declared.Session.{Session}
+use Rattle.editing.specs.declared.Answer.{Answer}
 use Rattle.texts.specs.Writing.{Text}
 use Rattle.texts.specs.Texts.{questionText, declinedText, reportText}
 use Rattle.texts.specs.declared.Kind.{Kind as Word}

@@ -14,11 +14,11 @@ use Rattle.forms.specs.Words.{bytes}
 use Rattle.report.specs.Places.{nth}
 use Rattle.report.specs.Report.{Results, seenOf, baselineSays}
 use Rattle.report.specs.declared.UncertaintyTruingReportV1.{UncertaintyTruingReportV1}
-use Rattle.session.specs.Meaning.{state}
 use Rattle.session.specs.Reading.{reportIn, placeIn, ofBaseline, baselineResults, HeadOf, Shows}
 use Rattle.session.specs.declared.Shown.{Shown}
 use Rattle.session.specs.declared.Shown.the-variants as Shown
-use Rattle.session.specs.declared.Session.{Session}
+use Rattle.editing.specs.Meaning.{state}
+use Rattle.editing.specs.declared.Session.{Session}
 use Rattle.texts.specs.Writing.{Text, Writes}
 use Rattle.texts.specs.Texts.{joined, bracketed, resultText, resultsText, bandText, bandsText, reportText}
 use Rattle.texts.specs.Pieces.{before, headText, baselineHead, baselineList, baselineEnd, middleText, endText}

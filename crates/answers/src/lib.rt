@@ -1,11 +1,11 @@
 // The session's answers as lines of the protocol, without their line feeds.
+use editing::Answer;
+use editing::Session;
 use report::BandAt;
 use report::Baseline;
 use report::ResultAt;
 use report::UncertaintyTruingReportV1;
-use session::Answer;
 use session::Distances;
-use session::Session;
 use session::Shown;
 use session::Step;
 use texts::Kind;
@@ -15,8 +15,9 @@ ghost use mathlib.Core.Option.{some};
 ghost use lib.ListN.{take};
 ghost use Rattle.definition.specs.Summary.{Report};
 ghost use Rattle.report.specs.Places.{nth, resultSays};
-ghost use Rattle.session.specs.Meaning.{state, kindSaid};
+ghost use Rattle.session.specs.Meaning.{kindSaid};
 ghost use Rattle.session.specs.Reading.{reportIn, HeadOf};
+ghost use Rattle.editing.specs.Meaning.{state};
 ghost use Rattle.texts.specs.Writing.{Writes};
 ghost use Rattle.texts.specs.Texts.{resultsText, bandsText, reportText};
 ghost use Rattle.texts.specs.Pieces.{baselineList};
@@ -37,9 +38,9 @@ fn result(s: Session, of_baseline: bool, i: usize) -> ResultAt
     ensures { λ r. ⌜ resultSays r ≡ nth i (resultsIn «of_baseline» s) ⌝ }
 {
     if of_baseline {
-        return session::baseline_result(s, i);
+        return editing::baseline_result(s, i);
     }
-    session::observation_result(s, i)
+    editing::observation_result(s, i)
 }
 
 // The first n results.
@@ -66,7 +67,7 @@ fn put_bands(out: &mut [u8], at: usize, s: Session, n: usize) -> usize
     let mut next = texts::put_byte(out, at, b'(');
     let mut i = 0usize;
     while i < n {
-        let found = session::predictive_band(s, i);
+        let found = editing::predictive_band(s, i);
         let BandAt::Given(b) = found else {
             return texts::put_byte(out, next, b')');
         };
@@ -107,7 +108,7 @@ fn put_shown(out: &mut [u8], at: usize, s: Session, h: UncertaintyTruingReportV1
 pub fn put_report(out: &mut [u8], at: usize, s: Session) -> usize
     ensures { λ r. ⌜ Writes (now (out .entry)) at (now (out .exit)) r (standingText (reportIn (state s))) ⌝ }
 {
-    match session::report(s) {
+    match editing::report(s) {
         Shown::Absent => texts::put_bytes(out, at, b""),
         Shown::Given(h) => put_shown(out, at, s, h),
     }

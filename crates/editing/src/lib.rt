@@ -221,12 +221,12 @@ fn after_reply(run: session::Session, change: Change, k: usize, p: Point, one: O
         };
         return asks(run, next, q);
     }
+    let row = row_of(one);
+    let next = session::changed(run, change, row);
     if one.gap != 0 {
         let place = place_of(change);
         return closed_with(run, Step::Refused(13, place));
     }
-    let row = row_of(one);
-    let next = session::changed(run, change, row);
     closed_with(next, Step::Report)
 }
 
@@ -394,8 +394,8 @@ pub fn take_out(s: Session, place: usize) -> Answer
                 d_drop_d_mv: 0.0,
                 d_drop_d_bc: 0.0,
             };
-            let next = session::changed(run, change, row);
-            closed_with(next, Step::Report)
+            let shorter = session::changed(run, change, row);
+            closed_with(shorter, Step::Report)
         }
     }
 }

@@ -1176,9 +1176,6 @@ pub fn changed(s: Session, change: Change, row: Row) -> Session
     let wanted = changed_wanted(old, change);
     let table = changed_table(rows, n, change, row);
     let body = Body { wanted, table, ..b };
-    Session {
-        body,
-        phase: Phase::Ended,
-        asked,
-    }
+    let phase = Phase::Ended;
+    Session { body, phase, asked }
 }

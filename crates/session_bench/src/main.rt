@@ -4,10 +4,10 @@ use definition::NormalPriorV1;
 use definition::Point;
 use definition::Prior;
 use definition::TruingPriorsV1;
+use editing::Answer;
 use forms::ReadCount;
 use libc::STDIN_FILENO;
 use libc::STDOUT_FILENO;
-use session::Answer;
 use session::Distances;
 use session::Step;
 ghost use mathlib.Core.Path.{_≡_};
@@ -66,7 +66,7 @@ fn opened(ranges: [f64; 64], distances: [f64; 64], n: usize, m: usize) -> Answer
         }),
         ballistic_coefficient: Prior::Absent,
     };
-    session::open(
+    editing::open(
         Point {
             mv: 2700.0,
             bc: 0.4,
@@ -86,7 +86,7 @@ fn replied(a: Answer, ranges: [f64; 64], n: usize, mv: f64, bc: f64) -> Answer {
     let s = a.session;
     let drops = drops_at(&ranges, mv, bc);
     let missing = [false; 64];
-    session::reply(
+    editing::reply(
         s,
         likelihood::first_places(&drops, n),
         first_flags(&missing, n),
@@ -135,7 +135,7 @@ fn run(ranges: [f64; 64], distances: [f64; 64], n: usize, m: usize) -> Total {
     let mut out = [0u8; 32768];
     let end = answers::put_answer(&mut out, 0, a);
     Total {
-        questions: session::asked(s),
+        questions: editing::asked(s),
         bytes: end as u64,
     }
 }

@@ -4,13 +4,13 @@ use definition::NormalPriorV1;
 use definition::Point;
 use definition::Prior;
 use definition::TruingPriorsV1;
+use editing::Answer;
+use editing::Session;
 use forms::Line;
 use forms::ReadForm;
 use forms::Sigma;
 use libc::STDIN_FILENO;
 use libc::STDOUT_FILENO;
-use session::Answer;
-use session::Session;
 ghost use mathlib.Core.Path.{_≡_};
 ghost use lib.ListN.{length, take};
 
@@ -168,7 +168,7 @@ fn opened(r: Request) -> Answer {
     let priors = r.priors;
     let n = r.n;
     let m = r.m;
-    session::open(
+    editing::open(
         entered,
         likelihood::first_places(&r.ranges, n),
         likelihood::first_places(&r.drops, n),
@@ -341,7 +341,7 @@ fn take_drops(t: Talk, l: Line) -> Talk {
     let s = t.session;
     let reply = l.reply;
     let n = reply.n;
-    let a = session::reply(
+    let a = editing::reply(
         s,
         likelihood::first_places(&reply.drops, n),
         first_flags(&reply.missing, n),
@@ -351,13 +351,34 @@ fn take_drops(t: Talk, l: Line) -> Talk {
 
 fn take_refused(t: Talk) -> Talk {
     let s = t.session;
-    let a = session::refuse(s);
+    let a = editing::refuse(s);
     answered(t, a)
+}
+
+fn take_put_in(t: Talk, place: u64, range: f64, sigma: Sigma) -> Talk {
+    let s = t.session;
+    match sigma {
+        Sigma::Absent => answered(t, editing::put_in(s, place as usize, range, 0.0, false)),
+        Sigma::Given(x) => answered(t, editing::put_in(s, place as usize, range, x, true)),
+    }
+}
+
+fn take_take_out(t: Talk, place: u64) -> Talk {
+    let s = t.session;
+    answered(t, editing::take_out(s, place as usize))
+}
+
+fn take_exchange(t: Talk, place: u64, range: f64, sigma: Sigma) -> Talk {
+    let s = t.session;
+    match sigma {
+        Sigma::Absent => answered(t, editing::exchange(s, place as usize, range, 0.0, false)),
+        Sigma::Given(x) => answered(t, editing::exchange(s, place as usize, range, x, true)),
+    }
 }
 
 fn take_asked(t: Talk) -> Talk {
     let s = t.session;
-    say_asked(session::asked(s));
+    say_asked(editing::asked(s));
     t
 }
 
@@ -372,9 +393,9 @@ fn take_line(t: Talk, l: Line) -> Talk {
         ReadForm::Open => take_open(t),
         ReadForm::Drops => take_drops(t, l),
         ReadForm::Refused => take_refused(t),
-        ReadForm::PutIn(_place, _range, _sigma) => malformed(t),
-        ReadForm::TakeOut(_place) => malformed(t),
-        ReadForm::Exchange(_place, _range, _sigma) => malformed(t),
+        ReadForm::PutIn(place, range, sigma) => take_put_in(t, place, range, sigma),
+        ReadForm::TakeOut(place) => take_take_out(t, place),
+        ReadForm::Exchange(place, range, sigma) => take_exchange(t, place, range, sigma),
         ReadForm::Asked => take_asked(t),
     }
 }

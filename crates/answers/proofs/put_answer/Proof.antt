@@ -1,9 +1,10 @@
 -- `put_answer`: by what is said.
 use borrow.Author.Needs.{needs}
 use mathlib.Core.Path.{_≡_, sym, ap, _∙_}
-use Rattle.session.specs.Meaning.{state, said}
+use Rattle.session.specs.Meaning.{said}
 use Rattle.session.specs.Reading.{reportIn}
 use Rattle.session.specs.declared.Step.{Step}
+use Rattle.editing.specs.Meaning.{state}
 use Rattle.texts.specs.Texts.{questionText}
 use Rattle.texts.specs.declared.Kind.{Kind}
 use Rattle.texts.specs.Writing.{as-text, same-room}

@@ -9,7 +9,7 @@ use lib.ListN.{take}
 use Rattle.forms.specs.Words.{bytes}
 use Rattle.definition.specs.Summary.{Band, Report}
 use Rattle.report.specs.Places.{bandAtSays}
-use Rattle.session.specs.Meaning.{state}
+use Rattle.editing.specs.Meaning.{state}
 use Rattle.session.specs.Reading.{reportIn}
 use Rattle.answers.specs.Laws.{place-list}
 use Rattle.texts.specs.Writing.{Text, Writes, then, as-text, same-room, within, nothing}

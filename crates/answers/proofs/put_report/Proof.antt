@@ -3,7 +3,7 @@ use borrow.Author.Needs.{needs}
 use mathlib.Core.Path.{_≡_, sym, ap, subst}
 use mathlib.Core.Option.{Option}
 use Rattle.definition.specs.Summary.{Report}
-use Rattle.session.specs.Meaning.{state}
+use Rattle.editing.specs.Meaning.{state}
 use Rattle.session.specs.Reading.{reportIn, Shows}
 use Rattle.session.specs.declared.Shown.{Shown}
 use Rattle.texts.specs.Writing.{Writes, as-text, same-room}

@@ -4,7 +4,7 @@ use mathlib.Core.Path.{ap, _∙_}
 use mathlib.Core.Bool.{Bool}
 use Rattle.definition.specs.Summary.{Report}
 use Rattle.report.specs.Places.{nth}
-use Rattle.session.specs.Meaning.{state}
+use Rattle.editing.specs.Meaning.{state}
 use Rattle.session.specs.Reading.{reportIn, baselineResults}
 use mathlib.Core.Path.{sym}
 use Rattle.answers.specs.Answers.{resultsIn}

@@ -4,8 +4,6 @@ use Rattle.editing.proofs.Calls.{run-baseline, open-baseline}
 use Rattle.editing.proofs.baseline_result.Statement.{statement}
 use Rattle.editing.proofs.baseline_result.Tie as tie
 
--- `baseline_result`: the run's, or none while an edit has a question open.
-
 enum-told : tie.Need-enum-told
 enum-told c = search needs
 

@@ -4,8 +4,6 @@ use Rattle.editing.proofs.Calls.{run-result, open-result}
 use Rattle.editing.proofs.observation_result.Statement.{statement}
 use Rattle.editing.proofs.observation_result.Tie as tie
 
--- `observation_result`: the run's, or none while an edit has a question open.
-
 enum-told : tie.Need-enum-told
 enum-told c = search needs
 

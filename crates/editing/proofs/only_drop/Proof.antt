@@ -4,8 +4,6 @@ use Rattle.editing.proofs.Calls.{one-drop}
 use Rattle.editing.proofs.only_drop.Statement.{statement}
 use Rattle.editing.proofs.only_drop.Tie as tie
 
--- `only_drop`: the one entry.
-
 shared-slice-read-drop-or-0 : tie.Need-shared-slice-read-drop-or-0
 shared-slice-read-drop-or-0 c = search needs
 

@@ -4,8 +4,6 @@ use Rattle.editing.proofs.Calls.{run-band, open-band}
 use Rattle.editing.proofs.predictive_band.Statement.{statement}
 use Rattle.editing.proofs.predictive_band.Tie as tie
 
--- `predictive_band`: the run's, or none while an edit has a question open.
-
 enum-told : tie.Need-enum-told
 enum-told c = search needs
 

@@ -8,8 +8,6 @@ use Rattle.editing.proofs.Calls.{nominal-one, mv-plus-one, mv-minus-one
 use Rattle.editing.proofs.read_one.Statement.{statement}
 use Rattle.editing.proofs.read_one.Tie as tie
 
--- `read_one`: by the number of the question.
-
 first-gap-requires : tie.Need-first-gap-requires
 first-gap-requires c κs = search needs
 

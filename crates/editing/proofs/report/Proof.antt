@@ -4,8 +4,6 @@ use Rattle.editing.proofs.Calls.{run-report, open-report}
 use Rattle.editing.proofs.report.Statement.{statement}
 use Rattle.editing.proofs.report.Tie as tie
 
--- `report`: the run's, or none while an edit has a question open.
-
 enum-told : tie.Need-enum-told
 enum-told c = search needs
 

@@ -4,8 +4,6 @@ use Rattle.editing.proofs.Calls.{run-fitted, open-fitted}
 use Rattle.editing.proofs.standing.Statement.{statement}
 use Rattle.editing.proofs.standing.Tie as tie
 
--- `standing`: the run's, or none while an edit has a question open.
-
 enum-told : tie.Need-enum-told
 enum-told c = search needs
 

@@ -7,8 +7,6 @@ use Rattle.session.proofs.ChangeLaws.{not-changed, not-placed, no-room,
 use Rattle.session.proofs.changed.Statement.{statement}
 use Rattle.session.proofs.changed.Tie as tie
 
--- `changed`: where a finished run stands and the edit fits its list.
-
 is-standing-requires : tie.Need-is-standing-requires
 is-standing-requires c κs = search needs
 

@@ -9,8 +9,6 @@ use Rattle.session.proofs.ChangeLaws.{put-places, took-places, set-plac
 use Rattle.session.proofs.changed_places.Statement.{statement}
 use Rattle.session.proofs.changed_places.Tie as tie
 
--- `changed_places`: by the change.
-
 enum-known-change : tie.Need-enum-known-change
 enum-known-change c = search needs
 

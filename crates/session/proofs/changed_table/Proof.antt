@@ -5,10 +5,6 @@ use Rattle.session.proofs.ChangeLaws.{table-changed}
 use Rattle.session.proofs.changed_table.Statement.{statement}
 use Rattle.session.proofs.changed_table.Tie as tie
 
--- `changed_table`: the three columns change alike.
-
--- `changed_table`: the three columns change alike.
-
 changed-places-requires : tie.Need-changed-places-requires
 changed-places-requires c κs = search needs
 

@@ -6,10 +6,6 @@ use Rattle.session.proofs.ChangeLaws.{wanted-changed}
 use Rattle.session.proofs.changed_wanted.Statement.{statement}
 use Rattle.session.proofs.changed_wanted.Tie as tie
 
--- `changed_wanted`: the two lists change alike.
-
--- `changed_wanted`: the two lists change alike.
-
 range-of-requires : tie.Need-range-of-requires
 range-of-requires c κs = search needs
 

@@ -7,8 +7,6 @@ use Rattle.session.proofs.ChangeLaws.{fitted-none, fitted-some}
 use Rattle.session.proofs.fit_of.Statement.{statement}
 use Rattle.session.proofs.fit_of.Tie as tie
 
--- `fit_of`: where a finished run stands.
-
 is-standing-requires : tie.Need-is-standing-requires
 is-standing-requires c κs = search needs
 

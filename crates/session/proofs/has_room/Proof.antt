@@ -5,8 +5,6 @@ use Rattle.session.specs.Changing.{editOf, roomy}
 use Rattle.session.proofs.has_room.Statement.{statement}
 use Rattle.session.proofs.has_room.Tie as tie
 
--- `has_room`: by the change.
-
 enum-known-change : tie.Need-enum-known-change
 enum-known-change c = search needs
 

@@ -4,8 +4,6 @@ use Rattle.session.proofs.ChangeLaws.{placed-put, placed-as}
 use Rattle.session.proofs.is_placed.Statement.{statement}
 use Rattle.session.proofs.is_placed.Tie as tie
 
--- `is_placed`: by the change.
-
 enum-known-change : tie.Need-enum-known-change
 enum-known-change c = search needs
 

@@ -6,8 +6,6 @@ use Rattle.session.specs.Changing.{editOf, sizeAfter}
 use Rattle.session.proofs.size_after.Statement.{statement}
 use Rattle.session.proofs.size_after.Tie as tie
 
--- `size_after`: by the change.
-
 enum-known-change : tie.Need-enum-known-change
 enum-known-change c = search needs
 
