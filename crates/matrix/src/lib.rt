@@ -33,6 +33,13 @@ impl Symmetric2 {
         }
     }
 
+    // The sum, into the matrix that is lent.
+    pub fn add_assign(&mut self, rhs: Symmetric2)
+        ensures { λ _. ⌜ now (self .exit) ≡ sumOf (now (self .entry)) rhs ⌝ }
+    {
+        *self = self.add(rhs);
+    }
+
     // Whether each entry is finite.
     fn is_finite(self) -> bool
         ensures { λ r. ⌜ r ≡ entriesFinite self ⌝ }
