@@ -1,7 +1,8 @@
-//! Checks the estimator's text and writes the two variants that are compiled:
-//! `untouched.rs`, the text as it stands, and `recipes.rs`, in which the three
-//! functions without a fixed last bit give way to document 01's recipes.  Both
-//! end with `wrapper.rs`, which needs the text's private items.
+//! Checks the estimator's text and writes the variants that are compiled:
+//! `untouched.rs`, the text as it stands; `recipes.rs`, in which the three
+//! functions without a fixed last bit give way to document 01's recipes; and
+//! `unjudged.rs`, the recipes with an objective that gives a sum that is not
+//! finite too.  Each ends with `wrapper.rs`, which needs the text's private items.
 
 use std::{env, fs, path::Path};
 
@@ -21,6 +22,12 @@ const RECIPES: [(&str, &str, usize); 2] = [
              let (sin, cos) = crate::recipe::poll_sin_cos(x, y);\n",
         1,
     ),
+];
+
+/// The objective's judgement of its sum, and one that lets every sum pass.
+const JUDGED: [&str; 2] = [
+    "    if objective.is_finite() {\n        Ok(objective)\n    } else {\n",
+    "    if true {\n        Ok(objective)\n    } else {\n",
 ];
 
 fn main() {
@@ -44,15 +51,20 @@ fn main() {
     // A question's place is told by its line, so the lines must not move.
     assert_eq!(recipes.lines().count(), text.lines().count());
 
+    assert_eq!(recipes.matches(JUDGED[0]).count(), 1, "occurrences of {}", JUDGED[0]);
+    let unjudged = recipes.replace(JUDGED[0], JUDGED[1]);
+
     let wrapper = fs::read_to_string("src/wrapper.rs").expect("wrapper.rs");
     let out = env::var("OUT_DIR").expect("OUT_DIR");
     let write = |name: &str, what: String| fs::write(Path::new(&out).join(name), what).expect(name);
     write("untouched.rs", format!("{text}\n{wrapper}"));
     write("recipes.rs", format!("{recipes}\n{wrapper}"));
+    write("unjudged.rs", format!("{unjudged}\n{wrapper}"));
     write(
         "variants.rs",
         "#[path = \"untouched.rs\"]\n#[allow(dead_code, unreachable_code)]\nmod untouched;\n\
-         #[path = \"recipes.rs\"]\n#[allow(dead_code, unreachable_code)]\nmod recipes;\n"
+         #[path = \"recipes.rs\"]\n#[allow(dead_code, unreachable_code)]\nmod recipes;\n\
+         #[path = \"unjudged.rs\"]\n#[allow(dead_code, unreachable_code)]\nmod unjudged;\n"
             .to_string(),
     );
 }

@@ -273,6 +273,15 @@ pub fn inverse(variant: Variant, entries: [f64; 3]) -> Result<[f64; 4], String> 
     }
 }
 
+/// The objective sum at the entered point, before the text judges it.  There is
+/// one reply to each shot.
+pub fn objective_sum(opening: &Opening, replies: &[f64]) -> f64 {
+    let mut ask =
+        |_: Place, _: f64, _: f64, _: usize| Some(replies.iter().map(|d| Some(*d)).collect());
+    let model = truing::TruingForwardModel::new(&mut ask);
+    unjudged::sum(opening, &model).expect("a sum that is not judged")
+}
+
 #[cfg(test)]
 mod tests {
     use super::*;

@@ -33,7 +33,7 @@ pub struct CountText {
 }
 
 // The double of a pattern. `from_bits` is not defined at a NaN's pattern, so that is tested first.
-fn double(b: u64) -> f64
+pub fn double(b: u64) -> f64
     ensures { λ r. ⌜ r ≡ ofBits binary64 b ⌝ }
 {
     if b % SIGN > INFINITY {
@@ -43,7 +43,7 @@ fn double(b: u64) -> f64
 }
 
 // The pattern of a double, one and the same for every NaN, at which `to_bits` is not defined.
-fn pattern(x: f64) -> u64
+pub fn pattern(x: f64) -> u64
     ensures { λ r. ⌜ r ≡ toBits binary64 x ⌝ }
 {
     if x != x {
