@@ -221,6 +221,20 @@ entry-missing x false = refl
 pub entries-length : (ds : List Float) (ms : List Bool) → length (entriesOf ds ms) ≡ min (length ds) (length ms)
 entries-length ds ms = zip-length entryOf ds ms
 
+-- up to an index none is missing: by the flag there, the first is this one, or none is up to the next
+module _ (ds : List Float) (ms : List Bool) (i : ℕ) (g : i < length ds) (h : i < length ms) (z : firstAt isMissing (take i (entriesOf ds ms)) ≡ 0) where
+  inside : i < length (entriesOf ds ms)
+  inside = let e = entries-length ds ms in omega arith
+
+  flag : isMissing (getD (entriesOf ds ms) i missing) ≡ getD ms i false
+  flag = ap isMissing (zip-at entryOf ds ms i missing nan false g h) ∙ entry-missing (getD ds i nan) (getD ms i false)
+
+  pub set-here : getD ms i false ≡ true → suc i ≡ firstAt isMissing (entriesOf ds ms)
+  set-here e = sym (first-here isMissing (entriesOf ds ms) i missing inside z (flag ∙ e))
+
+  pub unset-here : getD ms i false ≡ false → firstAt isMissing (take (suc i) (entriesOf ds ms)) ≡ 0
+  unset-here e = first-suc isMissing (entriesOf ds ms) i missing inside z (flag ∙ e)
+
 -- where none is missing, the drops are the reply's
 pub entries-drops : (ds : List Float) (ms : List Bool) → length ds ≡ length ms → firstAt isMissing (entriesOf ds ms) ≡ 0 → map dropOr0 (entriesOf ds ms) ≡ ds
 entries-drops [] ms e z = refl

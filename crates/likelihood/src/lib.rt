@@ -7,6 +7,7 @@ use definition::Sums;
 use definition::TruingPriorsV1;
 use matrix::Symmetric2;
 ghost use mathlib.Core.Path.{_≡_};
+ghost use mathlib.Core.Bool.{false};
 ghost use mathlib.Core.List.{map};
 ghost use Prim.Native.Nat.{min};
 ghost use lib.ListN.{take};
@@ -55,10 +56,27 @@ pub fn first_places<'a>(s: &'a [f64], n: usize) -> &'a [f64]
 
 // ---- gaps
 
+// Whether an entry is missing. The loop does not end early, so that it is done for many flags at a time.
+fn any_gap(drops: &[f64], missing: &[bool]) -> bool
+    ensures { λ r. ⌜ (r ≡ false → firstAt isMissing (entriesOf (now (drops .entry)) (now (missing .entry))) ≡ 0) ⌝ }
+{
+    let n = shorter(drops.len(), missing.len());
+    let mut found = false;
+    let mut i = 0usize;
+    while i < n {
+        found = found | missing[i];
+        i += 1usize;
+    }
+    found
+}
+
 // The position of the first entry that is missing, 0 where none is.
 pub fn first_gap(drops: &[f64], missing: &[bool]) -> usize
     ensures { λ r. ⌜ r ≡ firstAt isMissing (entriesOf (now (drops .entry)) (now (missing .entry))) ⌝ }
 {
+    if !any_gap(drops, missing) {
+        return 0;
+    }
     let n = shorter(drops.len(), missing.len());
     let mut i = 0usize;
     while i < n {

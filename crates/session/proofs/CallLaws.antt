@@ -54,9 +54,6 @@ pub right-lengths : (n : ℕ) (ds : List Float) (ms : List Bool) → T (rightLen
 right-lengths n ds ms t =
     (eqb→eq (length ds) n (and-l (eqb (length ds) n) (eqb (length ms) n) t), eqb→eq (length ms) n (and-r (eqb (length ds) n) (eqb (length ms) n) t))
 
-pub same-lengths : (n : ℕ) (ds : List Float) (ms : List Bool) → T (rightLength n ds ms) → length ds ≡ length ms
-same-lengths n ds ms t = right-lengths n ds ms t .0 ∙ sym (right-lengths n ds ms t .1)
-
 T-true : (b : Bool) → T b → b ≡ true
 T-true true t = refl
 T-true false t = absurd t

@@ -3,5 +3,7 @@ pub mod Rows
 pub mod Steps
 pub mod OpenLaws
 pub mod CallLaws
+pub mod Turns
+pub mod Taken
 pub mod ReadLaws
 pub mod ChangeLaws

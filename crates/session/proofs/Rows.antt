@@ -1,16 +1,13 @@
 -- The five questions over plain values: the rows with one reply more, and what is left of the run then.
-use Prim.Native.Nat.{ℕ, zero, suc, _≤_, _<_, min}
-use mathlib.Core.Path.{_≡_, refl, sym, ap, _∙_, subst}
-use mathlib.Core.Bool.{Bool, cond, _&&_}
+use Prim.Native.Nat.{ℕ, zero, suc, _≤_, _<_}
+use mathlib.Core.Path.{_≡_, refl, ap, _∙_}
+use mathlib.Core.Bool.{Bool}
 use mathlib.Core.List.{List, [], _∷_, map}
-use mathlib.Core.Option.{none}
 use native.Mathlib.Omega.{arith}
-use lib.Dec.{T, leb}
 use lib.Ieee.{Float}
 use lib.ListN.{length, take}
-use Rattle.definition.specs.Lists.{firstOf}
 use Rattle.definition.specs.Request.{Requested, Measured}
-use Rattle.definition.specs.Run.{Run, done, refuse, ask, bind, unless, answered, entries, Reading, readingOf, dropOr0, Which, shots, distances}
+use Rattle.definition.specs.Run.{Run, done, refuse, ask, bind, unless, answered, entries, readingOf, dropOr0, Which, shots, distances}
 use Rattle.definition.specs.Fit.{Fit}
 use Rattle.definition.specs.Summary.{Finished, baselineOf}
 use Rattle.definition.specs.Whole as whole
@@ -19,13 +16,9 @@ use Rattle.definition.specs.Likelihood as likelihood
 use Rattle.definition.specs.declared.Point.{Point}
 use Rattle.likelihood.specs.Arrays.{entriesOf, over}
 use Rattle.likelihood.specs.Laws.{over-take, over-zip, drops-length}
-use Rattle.session.specs.Meaning.{rowsAt, stencil, stencilNext, pointAt, rowsNext}
-use Rattle.session.specs.declared.Table.{Table}
+use Rattle.session.specs.Meaning.{stencil, stencilNext, pointAt, rowsNext}
 
 -- ---- the table with a reply of n entries
-
-abbrev tableOf : List Float → List Float → List Float → ℕ → Table
-tableOf predicted byMv byBc gap = record { predicted = predicted; «by_mv» = byMv; «by_bc» = byBc; gap = gap }
 
 module _ (ds : List Float) (ms : List Bool) (same : length ds ≡ length ms) (places : length ds ≤ 64) where
   -- the reply's drops, laid over an array, are its first places
@@ -34,83 +27,11 @@ module _ (ds : List Float) (ms : List Bool) (same : length ds ≡ length ms) (pl
       let n = drops-length ds ms in
       ap (λ (x : List Float). take (length ds) x) e ∙ over-take (map dropOr0 (entriesOf ds ms)) a (length ds) (omega arith) (omega arith)
 
-  sloped : (step : Float) (a b : List Float) → length a ≡ 64 → b ≡ over (likelihood.slopes step a (map dropOr0 (entriesOf ds ms))) a
+  pub sloped : (step : Float) (a b : List Float) → length a ≡ 64 → b ≡ over (likelihood.slopes step a (map dropOr0 (entriesOf ds ms))) a
       → take (length ds) b ≡ likelihood.slopes step (take (length ds) a) (readingOf (entriesOf ds ms) .drops)
   sloped step a b l e =
       let n = drops-length ds ms in
       ap (λ (x : List Float). take (length ds) x) e ∙ over-zip (likelihood.slope step) a (map dropOr0 (entriesOf ds ms)) (length ds) (omega arith) (omega arith)
-
-  module _ (t : Table) (p : Point) where
-    pub nominal-read : (k : ℕ) (b : List Float) (gap : ℕ) → k ≡ 0 → length (t .predicted) ≡ 64 → b ≡ over (map dropOr0 (entriesOf ds ms)) (t .predicted)
-        → gap ≡ readingOf (entriesOf ds ms) .gap
-        → rowsAt (length ds) (tableOf b (t .«by_mv») (t .«by_bc») gap) ≡ rowsNext k p (rowsAt (length ds) t) (readingOf (entriesOf ds ms))
-    nominal-read zero b gap z l e g = λ i. record {
-      predicted = laid (t .predicted) b l e i;
-      byMv = take (length ds) (t .«by_mv»);
-      byBc = take (length ds) (t .«by_bc»);
-      gap = g i;
-    }
-    nominal-read (suc k) b gap z l e g = absurd (omega arith)
-
-    pub mv-plus-read : (k : ℕ) (b : List Float) (gap : ℕ) → k ≡ 1 → length (t .«by_mv») ≡ 64 → b ≡ over (map dropOr0 (entriesOf ds ms)) (t .«by_mv»)
-        → gap ≡ firstOf (t .gap) (readingOf (entriesOf ds ms) .gap)
-        → rowsAt (length ds) (tableOf (t .predicted) b (t .«by_bc») gap) ≡ rowsNext k p (rowsAt (length ds) t) (readingOf (entriesOf ds ms))
-    mv-plus-read zero b gap z l e g = absurd (omega arith)
-    mv-plus-read (suc zero) b gap z l e g = λ i. record {
-      predicted = take (length ds) (t .predicted);
-      byMv = laid (t .«by_mv») b l e i;
-      byBc = take (length ds) (t .«by_bc»);
-      gap = g i;
-    }
-    mv-plus-read (suc (suc k)) b gap z l e g = absurd (omega arith)
-
-    pub mv-minus-read : (k : ℕ) (b : List Float) (gap : ℕ) (step : Float) → k ≡ 2 → step ≡ likelihood.mvStepOf (p .mv) → length (t .«by_mv») ≡ 64
-        → b ≡ over (likelihood.slopes step (t .«by_mv») (map dropOr0 (entriesOf ds ms))) (t .«by_mv»)
-        → gap ≡ firstOf (t .gap) (readingOf (entriesOf ds ms) .gap)
-        → rowsAt (length ds) (tableOf (t .predicted) b (t .«by_bc») gap) ≡ rowsNext k p (rowsAt (length ds) t) (readingOf (entriesOf ds ms))
-    mv-minus-read zero b gap step z s l e g = absurd (omega arith)
-    mv-minus-read (suc zero) b gap step z s l e g = absurd (omega arith)
-    mv-minus-read (suc (suc zero)) b gap step z s l e g =
-        let q = sloped step (t .«by_mv») b l e ∙ ap (λ (x : Float). likelihood.slopes x (take (length ds) (t .«by_mv»)) (readingOf (entriesOf ds ms) .drops)) s in
-        λ i. record {
-          predicted = take (length ds) (t .predicted);
-          byMv = q i;
-          byBc = take (length ds) (t .«by_bc»);
-          gap = g i;
-        }
-    mv-minus-read (suc (suc (suc k))) b gap step z s l e g = absurd (omega arith)
-
-    pub bc-plus-read : (k : ℕ) (b : List Float) (gap : ℕ) → k ≡ 3 → length (t .«by_bc») ≡ 64 → b ≡ over (map dropOr0 (entriesOf ds ms)) (t .«by_bc»)
-        → gap ≡ firstOf (t .gap) (readingOf (entriesOf ds ms) .gap)
-        → rowsAt (length ds) (tableOf (t .predicted) (t .«by_mv») b gap) ≡ rowsNext k p (rowsAt (length ds) t) (readingOf (entriesOf ds ms))
-    bc-plus-read zero b gap z l e g = absurd (omega arith)
-    bc-plus-read (suc zero) b gap z l e g = absurd (omega arith)
-    bc-plus-read (suc (suc zero)) b gap z l e g = absurd (omega arith)
-    bc-plus-read (suc (suc (suc zero))) b gap z l e g = λ i. record {
-      predicted = take (length ds) (t .predicted);
-      byMv = take (length ds) (t .«by_mv»);
-      byBc = laid (t .«by_bc») b l e i;
-      gap = g i;
-    }
-    bc-plus-read (suc (suc (suc (suc k)))) b gap z l e g = absurd (omega arith)
-
-    pub bc-minus-read : (k : ℕ) (b : List Float) (gap : ℕ) (step : Float) → (k ≡ 0 → ⊥) → (k ≡ 1 → ⊥) → (k ≡ 2 → ⊥) → (k ≡ 3 → ⊥) → step ≡ likelihood.bcStepOf (p .bc)
-        → length (t .«by_bc») ≡ 64
-        → b ≡ over (likelihood.slopes step (t .«by_bc») (map dropOr0 (entriesOf ds ms))) (t .«by_bc»)
-        → gap ≡ firstOf (t .gap) (readingOf (entriesOf ds ms) .gap)
-        → rowsAt (length ds) (tableOf (t .predicted) (t .«by_mv») b gap) ≡ rowsNext k p (rowsAt (length ds) t) (readingOf (entriesOf ds ms))
-    bc-minus-read zero b gap step n0 n1 n2 n3 s l e g = absurd (n0 refl)
-    bc-minus-read (suc zero) b gap step n0 n1 n2 n3 s l e g = absurd (n1 refl)
-    bc-minus-read (suc (suc zero)) b gap step n0 n1 n2 n3 s l e g = absurd (n2 refl)
-    bc-minus-read (suc (suc (suc zero))) b gap step n0 n1 n2 n3 s l e g = absurd (n3 refl)
-    bc-minus-read (suc (suc (suc (suc k)))) b gap step n0 n1 n2 n3 s l e g =
-        let q = sloped step (t .«by_bc») b l e ∙ ap (λ (x : Float). likelihood.slopes x (take (length ds) (t .«by_bc»)) (readingOf (entriesOf ds ms) .drops)) s in
-        λ i. record {
-          predicted = take (length ds) (t .predicted);
-          byMv = take (length ds) (t .«by_mv»);
-          byBc = q i;
-          gap = g i;
-        }
 
 -- ---- the point of a question
 

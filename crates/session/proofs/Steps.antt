@@ -1,18 +1,16 @@
 -- The steps of the five questions over plain bodies. The functions' proofs cite these.
-use Prim.Native.Nat.{ℕ, zero, suc, _+_, _≤_, _<_, min}
+use Prim.Native.Nat.{ℕ, suc, _+_, _≤_, _<_}
 use mathlib.Core.Path.{_≡_, refl, sym, ap, _∙_, subst}
-use mathlib.Core.Bool.{Bool, cond, _&&_}
-use mathlib.Core.List.{List, [], _∷_}
+use mathlib.Core.Bool.{_&&_}
 use mathlib.Core.Option.{none}
 use native.Mathlib.Omega.{arith}
 use native.Mathlib.Numerals.{add-one}
 use lib.Dec.{T, leb, leb→le}
-use lib.Ieee.{Float}
 use lib.Ieee.Fits.{and-l, and-r}
 use lib.ListN.{length, take, length-take}
 use Rattle.definition.specs.Lists.{zipWith, zipWith3}
-use Rattle.definition.specs.Request.{Requested, Measured}
-use Rattle.definition.specs.Run.{Run, done, refuse, ask, bind, Reading, shots, distances}
+use Rattle.definition.specs.Request.{Requested}
+use Rattle.definition.specs.Run.{Run, bind, Reading, shots, distances}
 use Rattle.definition.specs.Meaning.{observationsOf}
 use Rattle.definition.specs.Likelihood as likelihood
 use Rattle.definition.specs.Summary.{Finished}
@@ -21,16 +19,15 @@ use Rattle.definition.specs.declared.Point.{Point}
 use Rattle.definition.specs.declared.Evaluation.{Evaluation as Evaluated}
 use Rattle.likelihood.specs.Laws.{sums-places, zip-length}
 use Rattle.fitting.specs.Meaning.{fitOf, afterRows}
-use Rattle.fitting.specs.declared.Progress.{Progress}
 use Rattle.fitting.specs.declared.Stage.{Stage}
 use Rattle.report.specs.Places.{requestedAt}
-use Rattle.session.specs.Meaning.{requestedOf, measuredOf, wantedOf, rowsAt, bandRowsOf, stencil, stencilNext, pointAt, rowsNext, bandedAt, fiveAt, fiveBandsAt, afterBands, after, stateAt, withinOf, putAt, refusedAt, sizesOf, Stands}
+use Rattle.session.specs.Meaning.{requestedOf, measuredOf, wantedOf, rowsAt, bandRowsOf, pointAt, rowsNext, bandedAt, fiveAt, fiveBandsAt, afterBands, after, withinOf, putAt, refusedAt, sizesOf, Stands}
+use Rattle.session.specs.Turning.{withEvaluation}
 use Rattle.session.specs.declared.Body.{Body}
 use Rattle.session.specs.declared.Wanted.{Wanted}
 use Rattle.session.specs.declared.Table.{Table}
 use Rattle.session.specs.declared.Phase.the-variants.{Evaluation, Bands}
 use Rattle.session.specs.declared.Phase.the-variants as Phase
-use Rattle.session.specs.declared.Answer.{Answer}
 use Rattle.session.specs.declared.Distances.the-variants as Distances
 use Rattle.session.proofs.Laws.{stands-same, refused-stands, asks-stands}
 use Rattle.session.proofs.Rows.{left, left-more, left-gap, left-whole, stencil-left, no-bands, some-bands, concluded-asks}
@@ -45,19 +42,6 @@ pub le-of-eq-le : {a b c : ℕ} → a ≡ b → b ≤ c → a ≤ c
 le-of-eq-le e h = omega arith
 
 -- ---- the evaluation at the fit
-
-abbrev withEvaluation : Progress → Evaluated → Progress
-withEvaluation g e = record {
-  point = g .point;
-  current = g .current;
-  damping = g .damping;
-  left = g .left;
-  trials = g .trials;
-  evaluation = e;
-  pass = g .pass;
-  convergence = g .convergence;
-  evaluations = g .evaluations;
-}
 
 abbrev pub fittedBody : Body → Evaluated → Body
 fittedBody b e = record {

@@ -15,21 +15,23 @@ use report::ResultAt;
 use report::TruingBaselineV1;
 use report::UncertaintyTruingReportV1;
 ghost use mathlib.Core.Path.{_≡_};
-ghost use mathlib.Core.Bool.{_&&_};
+ghost use mathlib.Core.Bool.{cond, _&&_};
 ghost use mathlib.Core.List.{map};
-ghost use mathlib.Core.Option.{none};
 ghost use Prim.Native.Nat.{_≤_, _<_, _-_};
-ghost use lib.Dec.{T, leb};
+ghost use lib.Dec.{T, leb, eqb};
 ghost use lib.ListN.{length, take};
-ghost use Rattle.definition.specs.Run.{bind, done, entries, readingOf, dropOr0};
+ghost use Rattle.definition.specs.Run.{dropOr0};
 ghost use Rattle.definition.specs.Summary as summary;
-ghost use Rattle.definition.specs.Lists.{any, firstAt, zipWith};
+ghost use Rattle.definition.specs.Lists.{any, firstAt, zipWith, zipWith3};
+ghost use Rattle.definition.specs.Likelihood.{chiSquareOf, finishedOf, sumsOf};
+ghost use Rattle.definition.specs.Likelihood.{rowOf as rowAt};
 ghost use Rattle.definition.specs.Meaning.{observationsOf, convergenceOf, approximationSays};
 ghost use Rattle.definition.specs.Summary.{isOutside};
 ghost use Rattle.definition.specs.Whole.{soundRequestedOf, faultyRequested, checkedMeasured, checkedRequested};
 ghost use Rattle.likelihood.specs.Arrays.{entriesOf};
-ghost use Rattle.fitting.specs.Meaning.{restOf, withinWait, afterRows, afterTrial, afterLook, startAt};
-ghost use Rattle.session.specs.Meaning.{moreOf, requestedOf, withinOf, rightLength, valueSays, valuedFrom, sumOf, measuredOf, wantedOf, rowsAt, rowsNext, pointAt, HasWanted, bandedAt, fiveAt, fiveBandsAt, putAt, refusedAt, reportedAt, finishedWith, sizesOf, state, Stands, Declines, Opened, Replied, PointRefused};
+ghost use Rattle.numeric.specs.Numeric.{finite};
+ghost use Rattle.session.specs.Meaning.{moreOf, requestedOf, rightLength, valueSays, valuedFrom, sumOf, rowsAt, pointAt, HasWanted, putAt, refusedAt, reportedAt, state, Declines, Opened, Replied, PointRefused};
+ghost use Rattle.session.specs.Turning.{asksAt, stopsAt, countedBy, Waits, Tries, Looks, Starts, atFitAt, Evaluates, Fives, fiveBandsTurn, Takes, nineUnless, declinedBy, laidIf, laidPair, Before, fiveRow, rowOf, gapAfter, objectiveAt, valueAt, isAtFit, isLast, fitsNow};
 ghost use Rattle.report.specs.Places.{nth, resultSays, bandAtSays};
 ghost use Rattle.report.specs.Report.{baselineSays};
 ghost use Rattle.definition.specs.Whole.{edited, editedNumbers, editedRows, placed};
@@ -181,43 +183,78 @@ fn reported(b: Body, asked: u64) -> Answer
     }
 }
 
+// ---- the turn that a run takes
+
+// What a taken reply leads to: the numbers of the fit, which question is open then, and what is said.
+pub struct Turn {
+    progress: Progress,
+    phase: Phase,
+    step: Step,
+}
+
+// The run puts its next question.
+fn asks(progress: Progress, phase: Phase, p: Point, list: Distances) -> Turn
+    ensures { λ r. ⌜ r ≡ asksAt progress phase p list ⌝ }
+{
+    Turn {
+        progress,
+        phase,
+        step: Step::Question(p.mv, p.bc, list),
+    }
+}
+
+// The run ends with a refusal.
+fn stops(progress: Progress, number: usize, position: usize) -> Turn
+    ensures { λ r. ⌜ r ≡ stopsAt progress number position ⌝ }
+{
+    Turn {
+        progress,
+        phase: Phase::Over,
+        step: Step::Refused(number, position),
+    }
+}
+
+// The count after a turn: one more where it is a question.
+fn counted(asked: u64, step: Step) -> u64
+    ensures { λ r. ⌜ r ≡ countedBy step asked ⌝ }
+{
+    match step {
+        Step::Question(_mv, _bc, _list) => more(asked),
+        Step::Report => asked,
+        Step::Refused(_number, _position) => asked,
+    }
+}
+
 // The fit has come to this, and waits for its next question.
-fn waits(b: Body, moved: Moved, asked: u64) -> Answer
-    ensures { λ r. ⌜ (T (withinOf b) → withinWait (moved .progress) (moved .wait) → Stands r (sizesOf b) none asked (restOf (measuredOf b) (wantedOf b) (moved .progress) (moved .wait))) ⌝ }
+fn waits(moved: Moved) -> Turn
+    ensures { λ r. ⌜ Waits moved r ⌝ }
 {
     let progress = moved.progress;
     let wait = moved.wait;
     let p = progress.point;
-    let next = Body { progress, ..b };
     match wait {
-        Wait::Evaluation(stage) => puts(
-            next,
-            Phase::Evaluation(stage, 0),
-            asked,
-            p,
-            Distances::Shots,
-        ),
-        Wait::Trial(q) => puts(next, Phase::Trial(q), asked, q, Distances::Shots),
-        Wait::Look(c) => puts(next, Phase::Look(c), asked, c, Distances::Shots),
+        Wait::Evaluation(stage) => {
+            asks(progress, Phase::Evaluation(stage, 0), p, Distances::Shots)
+        }
+        Wait::Trial(q) => asks(progress, Phase::Trial(q), q, Distances::Shots),
+        Wait::Look(c) => asks(progress, Phase::Look(c), c, Distances::Shots),
     }
 }
 
 // ---- one objective
 
-// The objective at a point from a reply: a gap is judged before the sum.
+// The objective at a point from a reply and its first gap, which is judged before the sum.
 fn value_of<'a>(
     ranges: &'a [f64],
     drops: &'a [f64],
     sigmas: &'a [f64],
     priors: TruingPriorsV1,
     p: Point,
+    gap: usize,
     reply: &'a [f64],
-    missing: &'a [bool],
 ) -> Value
-    requires { ⌜ length (now reply) ≡ length (now missing) ⌝ }
-    ensures { λ r. ⌜ valueSays r ≡ valuedFrom (readingOf (entriesOf (now (reply .entry)) (now (missing .entry))) .gap) (sumOf (now (ranges .entry)) (now (drops .entry)) (now (sigmas .entry)) priors p (readingOf (entriesOf (now (reply .entry)) (now (missing .entry))) .drops)) ⌝ }
+    ensures { λ r. ⌜ valueSays r ≡ valuedFrom gap (sumOf (now (ranges .entry)) (now (drops .entry)) (now (sigmas .entry)) priors p (now (reply .entry))) ⌝ }
 {
-    let gap = likelihood::first_gap(reply, missing);
     if gap != 0 {
         return Value::Gap(gap);
     }
@@ -229,47 +266,74 @@ fn value_of<'a>(
 }
 
 // The objective at the entered point is there, or is refused.
-fn started(b: Body, asked: u64, value: Value) -> Answer
-    ensures { λ r. ⌜ (T (withinOf b) → Stands r (sizesOf b) none asked (bind (valueSays value) (λ v. startAt (b .entered) v (measuredOf b) (wantedOf b)))) ⌝ }
+fn started(g: Progress, entered: Point, value: Value) -> Turn
+    ensures { λ r. ⌜ Starts entered value r ⌝ }
 {
     match value {
-        Value::Gap(i) => refused(b, asked, 11, i),
-        Value::NonFinite => refused(b, asked, 12, 0),
-        Value::Sum(v) => {
-            let p = b.entered;
-            let moved = fitting::start(p, v);
-            waits(b, moved, asked)
-        }
+        Value::Gap(i) => stops(g, 11, i),
+        Value::NonFinite => stops(g, 12, 0),
+        Value::Sum(v) => waits(fitting::start(entered, v)),
     }
 }
 
 // The objective at a candidate of the damping trials is there, or is refused.
-fn tried(b: Body, asked: u64, q: Point, value: Value) -> Answer
-    ensures { λ r. ⌜ (T (withinOf b) → Stands r (sizesOf b) none asked (bind (valueSays value) (afterTrial (measuredOf b) (wantedOf b) (b .progress) q))) ⌝ }
+fn tried(g: Progress, q: Point, value: Value) -> Turn
+    ensures { λ r. ⌜ Tries g q value r ⌝ }
 {
     match value {
-        Value::Gap(i) => refused(b, asked, 11, i),
-        Value::NonFinite => refused(b, asked, 12, 0),
-        Value::Sum(v) => {
-            let g = b.progress;
-            let moved = fitting::after_trial(g, q, v);
-            waits(b, moved, asked)
-        }
+        Value::Gap(i) => stops(g, 11, i),
+        Value::NonFinite => stops(g, 12, 0),
+        Value::Sum(v) => waits(fitting::after_trial(g, q, v)),
     }
 }
 
 // The objective at a candidate of the poll is there, or is refused.
-fn looked(b: Body, asked: u64, c: Point, value: Value) -> Answer
-    ensures { λ r. ⌜ (T (withinOf b) → b .progress .pass .evaluations < 1024 → Stands r (sizesOf b) none asked (bind (valueSays value) (afterLook (measuredOf b) (wantedOf b) (b .progress) c))) ⌝ }
+fn looked(g: Progress, c: Point, value: Value) -> Turn
+    ensures { λ r. ⌜ Looks g c value r ⌝ }
 {
     match value {
-        Value::Gap(i) => refused(b, asked, 11, i),
-        Value::NonFinite => refused(b, asked, 12, 0),
-        Value::Sum(v) => {
-            let g = b.progress;
-            let moved = fitting::after_look(g, c, v);
-            waits(b, moved, asked)
-        }
+        Value::Gap(i) => stops(g, 11, i),
+        Value::NonFinite => stops(g, 12, 0),
+        Value::Sum(v) => waits(fitting::after_look(g, c, v)),
+    }
+}
+
+// The point of the objective that is asked for, if one is.
+pub enum Objective {
+    At(Point),
+    No,
+}
+
+fn objective_at(phase: Phase, entered: Point) -> Objective
+    ensures { λ r. ⌜ r ≡ objectiveAt phase entered ⌝ }
+{
+    match phase {
+        Phase::Over => Objective::No,
+        Phase::Start => Objective::At(entered),
+        Phase::Evaluation(_stage, _k) => Objective::No,
+        Phase::Trial(q) => Objective::At(q),
+        Phase::Look(c) => Objective::At(c),
+        Phase::Bands(_k) => Objective::No,
+        Phase::Baseline => Objective::No,
+        Phase::Ended => Objective::No,
+    }
+}
+
+// The objective from a reply where one is asked for.
+fn value_if<'a>(
+    objective: Objective,
+    ranges: &'a [f64; 64],
+    drops: &'a [f64; 64],
+    sigmas: &'a [f64; 64],
+    priors: TruingPriorsV1,
+    gap: usize,
+    reply: &'a [f64],
+) -> Value
+    ensures { λ r. ⌜ valueSays r ≡ valueAt objective (λ p. valuedFrom gap (sumOf (now (ranges .entry)) (now (drops .entry)) (now (sigmas .entry)) priors p (now (reply .entry)))) ⌝ }
+{
+    match objective {
+        Objective::No => Value::NonFinite,
+        Objective::At(p) => value_of(ranges, drops, sigmas, priors, p, gap, reply),
     }
 }
 
@@ -294,33 +358,81 @@ pub fn stencil_point(p: Point, k: usize) -> Point
     likelihood::bc_minus(p)
 }
 
-// The table with the reply to the k-th question.
-fn read_reply(table: Table, k: usize, p: Point, reply: &[f64], missing: &[bool]) -> Table
-    requires { ⌜ (length (now reply) ≡ length (now missing)) × (length (now reply) ≤ 64) ⌝ }
-    ensures { λ r. ⌜ rowsAt (length (now (reply .entry))) r ≡ rowsNext k p (rowsAt (length (now (reply .entry))) table) (readingOf (entriesOf (now (reply .entry)) (now (missing .entry)))) ⌝ }
+// A reply's drops go over the array, where this is their place.
+fn lay_if(out: &mut [f64; 64], here: bool, reply: &[f64], missing: &[bool])
+    ensures { λ _. ⌜ now (out .exit) ≡ laidIf here (map dropOr0 (entriesOf (now (reply .entry)) (now (missing .entry)))) (now (out .entry)) ⌝ }
 {
-    let gap = likelihood::first_gap(reply, missing);
-    let mut t = table;
-    if k == 0 {
-        likelihood::read_drops(&mut t.predicted, reply, missing);
-        t.gap = gap;
-        return t;
+    if here {
+        likelihood::read_drops(out, reply, missing);
+        return;
     }
-    t.gap = likelihood::first_of(table.gap, gap);
-    if k == 1 {
-        likelihood::read_drops(&mut t.by_mv, reply, missing);
-        return t;
+}
+
+// The drops at the plus point go over the array, then the slopes by those at the minus point.
+fn lay_pair(
+    out: &mut [f64; 64],
+    plus: bool,
+    minus: bool,
+    step: f64,
+    reply: &[f64],
+    missing: &[bool],
+)
+    ensures { λ _. ⌜ now (out .exit) ≡ laidPair plus minus step (map dropOr0 (entriesOf (now (reply .entry)) (now (missing .entry)))) (now (out .entry)) ⌝ }
+{
+    if plus {
+        likelihood::read_drops(out, reply, missing);
+        return;
     }
-    if k == 2 {
-        likelihood::read_slopes(&mut t.by_mv, likelihood::mv_step(p.mv), reply, missing);
-        return t;
+    if minus {
+        likelihood::read_slopes(out, step, reply, missing);
+        return;
     }
-    if k == 3 {
-        likelihood::read_drops(&mut t.by_bc, reply, missing);
-        return t;
+}
+
+// Which of the five questions the k-th is: beyond the last it counts as the last.
+fn five_row(k: usize) -> usize
+    ensures { λ r. ⌜ r ≡ fiveRow k ⌝ }
+{
+    if k < 4 {
+        return k;
     }
-    likelihood::read_slopes(&mut t.by_bc, likelihood::bc_step(p.bc), reply, missing);
-    t
+    4
+}
+
+// Where a reply's drops go: 0 to 4 by the five questions, 5 to the drops at the entered point, 6 nowhere.
+fn row_of(phase: Phase) -> usize
+    ensures { λ r. ⌜ r ≡ rowOf phase ⌝ }
+{
+    match phase {
+        Phase::Over => 6,
+        Phase::Start => 6,
+        Phase::Evaluation(_stage, k) => five_row(k),
+        Phase::Trial(_q) => 6,
+        Phase::Look(_c) => 6,
+        Phase::Bands(k) => five_row(k),
+        Phase::Baseline => 5,
+        Phase::Ended => 6,
+    }
+}
+
+// The first gap of the rows before a reply. Its contract has the lengths of the arrays too, which the proof of `reply` needs and cannot reach by itself.
+fn gap_before(table: Table, baseline: [f64; 64]) -> usize
+    ensures { λ r. ⌜ Before table baseline r ⌝ }
+{
+    table.gap
+}
+
+// The first gap of the rows with one reply more.
+fn gap_after(row: usize, gap: usize, found: usize) -> usize
+    ensures { λ r. ⌜ r ≡ gapAfter row gap found ⌝ }
+{
+    if row == 0 {
+        return found;
+    }
+    if row < 5 {
+        return likelihood::first_of(gap, found);
+    }
+    gap
 }
 
 // Whether a distance is requested.
@@ -334,130 +446,191 @@ fn has_wanted(w: Wanted) -> bool
 }
 
 // The evaluation at the fit is there: it is kept, and the requested distances come next, or, with none, the baseline.
-fn at_fit(b: Body, e: Evaluation, asked: u64) -> Answer
-    requires { ⌜ T (withinOf b) × (b .table .gap ≡ 0) ⌝ }
-    ensures { λ r. ⌜ Stands r (sizesOf b) none asked (bandedAt b e) ⌝ }
+fn at_fit(g: Progress, e: Evaluation, wanted: bool, entered: Point) -> Turn
+    ensures { λ r. ⌜ r ≡ atFitAt g e wanted entered ⌝ }
 {
-    let g = b.progress;
     let p = g.point;
-    let entered = b.entered;
-    let predicted = b.table.predicted;
     let progress = Progress { evaluation: e, ..g };
-    let next = Body {
-        progress,
-        predicted,
-        ..b
-    };
-    let wanted = b.wanted;
-    if has_wanted(wanted) {
-        return puts(next, Phase::Bands(0), asked, p, Distances::Requested);
+    if wanted {
+        return asks(progress, Phase::Bands(0), p, Distances::Requested);
     }
-    puts(next, Phase::Baseline, asked, entered, Distances::Shots)
+    asks(progress, Phase::Baseline, entered, Distances::Shots)
 }
 
-// The rows at the observations are there, without a gap.
-fn evaluated(b: Body, stage: Stage, asked: u64) -> Answer
-    requires { ⌜ T (withinOf b) × (b .table .gap ≡ 0) ⌝ }
-    ensures { λ r. ⌜ Stands r (sizesOf b) none asked (afterRows (measuredOf b) (wantedOf b) (b .progress) stage (rowsAt (b .shots .n) (b .table))) ⌝ }
+// The evaluation is there.
+fn evaluated(g: Progress, e: Evaluation, stage: Stage, wanted: bool, entered: Point) -> Turn
+    ensures { λ r. ⌜ Evaluates stage g e wanted entered r ⌝ }
 {
-    let g = b.progress;
-    let p = g.point;
-    let priors = b.priors;
-    let n = b.shots.n;
-    let ranges = likelihood::first_places(&b.shots.ranges, n);
-    let e = likelihood::evaluate(
-        priors,
-        p,
-        ranges,
-        &b.shots.drops,
-        &b.shots.sigmas,
-        &b.table.predicted,
-        &b.table.by_mv,
-        &b.table.by_bc,
-    );
     match stage {
-        Stage::Iteration => waits(b, fitting::after_iteration(g, e), asked),
-        Stage::Final => waits(b, fitting::after_final(g, e), asked),
-        Stage::Mesh => waits(b, fitting::after_mesh(g, e), asked),
-        Stage::AtFit => at_fit(b, e, asked),
+        Stage::Iteration => waits(fitting::after_iteration(g, e)),
+        Stage::Final => waits(fitting::after_final(g, e)),
+        Stage::Mesh => waits(fitting::after_mesh(g, e)),
+        Stage::AtFit => at_fit(g, e, wanted, entered),
     }
 }
 
 // The k-th reply to the five questions at the observations is there. A gap is judged after the fifth.
-fn five(b: Body, stage: Stage, k: usize, asked: u64, reply: &[f64], missing: &[bool]) -> Answer
-    requires { ⌜ T (withinOf b) × (length (now reply) ≡ b .shots .n) × (length (now missing) ≡ b .shots .n) ⌝ }
-    ensures { λ r. ⌜ Stands r (sizesOf b) none asked (fiveAt b stage k (readingOf (entriesOf (now (reply .entry)) (now (missing .entry))))) ⌝ }
+fn five(
+    g: Progress,
+    e: Evaluation,
+    stage: Stage,
+    k: usize,
+    gap: usize,
+    wanted: bool,
+    entered: Point,
+) -> Turn
+    ensures { λ r. ⌜ Fives stage k g e gap wanted entered r ⌝ }
 {
-    let p = b.progress.point;
-    let old = b.table;
-    let table = read_reply(old, k, p, reply, missing);
-    let gap = table.gap;
-    let next = Body { table, ..b };
+    let p = g.point;
     if k < 4 {
         let q = stencil_point(p, k + 1);
-        return puts(
-            next,
-            Phase::Evaluation(stage, k + 1),
-            asked,
-            q,
-            Distances::Shots,
-        );
+        return asks(g, Phase::Evaluation(stage, k + 1), q, Distances::Shots);
     }
     if gap != 0 {
-        return refused(next, asked, 11, gap);
+        return stops(g, 11, gap);
     }
-    evaluated(next, stage, asked)
+    evaluated(g, e, stage, wanted, entered)
 }
 
 // The k-th reply to the five questions at the requested distances is there.
-fn five_bands(b: Body, k: usize, asked: u64, reply: &[f64], missing: &[bool]) -> Answer
-    requires { ⌜ T (withinOf b) × (length (now reply) ≡ b .wanted .n) × (length (now missing) ≡ b .wanted .n) ⌝ }
-    ensures { λ r. ⌜ Stands r (sizesOf b) none asked (fiveBandsAt b k (readingOf (entriesOf (now (reply .entry)) (now (missing .entry))))) ⌝ }
+fn five_bands(g: Progress, k: usize, gap: usize, entered: Point) -> Turn
+    ensures { λ r. ⌜ r ≡ fiveBandsTurn k g gap entered ⌝ }
 {
-    let p = b.progress.point;
-    let entered = b.entered;
-    let old = b.table;
-    let table = read_reply(old, k, p, reply, missing);
-    let gap = table.gap;
-    let next = Body { table, ..b };
+    let p = g.point;
     if k < 4 {
         let q = stencil_point(p, k + 1);
-        return puts(next, Phase::Bands(k + 1), asked, q, Distances::Requested);
+        return asks(g, Phase::Bands(k + 1), q, Distances::Requested);
     }
     if gap != 0 {
-        return refused(next, asked, 13, gap);
+        return stops(g, 13, gap);
     }
-    puts(next, Phase::Baseline, asked, entered, Distances::Shots)
+    asks(g, Phase::Baseline, entered, Distances::Shots)
+}
+
+fn is_at_fit(stage: Stage) -> bool
+    ensures { λ r. ⌜ r ≡ isAtFit stage ⌝ }
+{
+    match stage {
+        Stage::Iteration => false,
+        Stage::Final => false,
+        Stage::Mesh => false,
+        Stage::AtFit => true,
+    }
+}
+
+// Whether the rows at the observations are whole, without a gap.
+fn is_last(phase: Phase, gap: usize) -> bool
+    ensures { λ r. ⌜ r ≡ isLast phase gap ⌝ }
+{
+    match phase {
+        Phase::Over => false,
+        Phase::Start => false,
+        Phase::Evaluation(_stage, k) => (4 <= k) & (gap == 0),
+        Phase::Trial(_q) => false,
+        Phase::Look(_c) => false,
+        Phase::Bands(_k) => false,
+        Phase::Baseline => false,
+        Phase::Ended => false,
+    }
+}
+
+// Whether they are those at the fit.
+fn fits_now(phase: Phase, gap: usize) -> bool
+    ensures { λ r. ⌜ r ≡ fitsNow phase gap ⌝ }
+{
+    match phase {
+        Phase::Over => false,
+        Phase::Start => false,
+        Phase::Evaluation(stage, k) => (4 <= k) & (gap == 0) & is_at_fit(stage),
+        Phase::Trial(_q) => false,
+        Phase::Look(_c) => false,
+        Phase::Bands(_k) => false,
+        Phase::Baseline => false,
+        Phase::Ended => false,
+    }
+}
+
+// The drops at the fit are kept, where these are.
+fn keep_if(out: &mut [f64; 64], here: bool, drops: &[f64; 64])
+    ensures { λ _. ⌜ now (out .exit) ≡ cond here (now (drops .entry)) (now (out .entry)) ⌝ }
+{
+    if here {
+        let kept = *drops;
+        *out = kept;
+        return;
+    }
+}
+
+// The evaluation from whole rows, else the one before.
+fn evaluation_if<'a>(
+    here: bool,
+    old: Evaluation,
+    priors: TruingPriorsV1,
+    p: Point,
+    n: usize,
+    ranges: &'a [f64; 64],
+    drops: &'a [f64; 64],
+    sigmas: &'a [f64; 64],
+    predicted: &'a [f64; 64],
+    by_mv: &'a [f64; 64],
+    by_bc: &'a [f64; 64],
+) -> Evaluation
+    ensures { λ r. ⌜ r ≡ cond here (finishedOf priors p (sumsOf p (observationsOf (take n (now (ranges .entry))) (now (drops .entry)) (now (sigmas .entry))) (zipWith3 rowAt (now (predicted .entry)) (now («by_mv» .entry)) (now («by_bc» .entry))))) old ⌝ }
+{
+    if here {
+        let first = likelihood::first_places(ranges, n);
+        return likelihood::evaluate(priors, p, first, drops, sigmas, predicted, by_mv, by_bc);
+    }
+    old
 }
 
 // ---- the baseline
 
-// The reply's drops in the first places of the array.
-fn laid(a: [f64; 64], reply: &[f64], missing: &[bool]) -> [f64; 64]
-    requires { ⌜ (length (now reply) ≡ length (now missing)) × (length (now reply) ≤ 64) ⌝ }
-    ensures { λ r. ⌜ take (length (now (reply .entry))) r ≡ map dropOr0 (entriesOf (now (reply .entry)) (now (missing .entry))) ⌝ }
+// Whether there is a baseline: not with a gap, or a sum that is not finite.
+fn baseline_if<'a>(
+    here: bool,
+    old: bool,
+    gap: usize,
+    ranges: &'a [f64; 64],
+    drops: &'a [f64; 64],
+    sigmas: &'a [f64; 64],
+    reply: &'a [f64],
+) -> bool
+    ensures { λ r. ⌜ r ≡ cond here (eqb gap 0 && finite (chiSquareOf (observationsOf (now (ranges .entry)) (now (drops .entry)) (now (sigmas .entry))) (now (reply .entry)))) old ⌝ }
 {
-    let mut t = a;
-    likelihood::read_drops(&mut t, reply, missing);
-    t
+    if here {
+        let chi = likelihood::chi_square(ranges, drops, sigmas, reply);
+        return (gap == 0) & numeric::is_finite(chi);
+    }
+    old
 }
 
-// The reply at the entered point is there, and the run ends with its report. With a gap, or a sum that is not finite, there is no baseline.
-fn concluded<'a>(b: Body, asked: u64, reply: &'a [f64], missing: &'a [bool]) -> Answer
-    requires { ⌜ T (withinOf b) × (length (now reply) ≡ b .shots .n) × (length (now missing) ≡ b .shots .n) ⌝ }
-    ensures { λ r. ⌜ Stands r (sizesOf b) none asked (done (finishedWith b (summary.baselineOf (measuredOf b) (entries (entriesOf (now (reply .entry)) (now (missing .entry))))))) ⌝ }
+// The turn that a taken reply leads to, by which question was open.
+fn turn_of(
+    phase: Phase,
+    g: Progress,
+    e: Evaluation,
+    value: Value,
+    gap: usize,
+    wanted: bool,
+    entered: Point,
+) -> Turn
+    ensures { λ r. ⌜ Takes phase g e value gap wanted entered r ⌝ }
 {
-    let gap = likelihood::first_gap(reply, missing);
-    let chi = likelihood::chi_square(&b.shots.ranges, &b.shots.drops, &b.shots.sigmas, reply);
-    let old = b.baseline;
-    let baseline = laid(old, reply, missing);
-    let has_baseline = (gap == 0) & numeric::is_finite(chi);
-    let next = Body {
-        baseline,
-        has_baseline,
-        ..b
-    };
-    reported(next, asked)
+    match phase {
+        Phase::Over => stops(g, 8, 0),
+        Phase::Start => started(g, entered, value),
+        Phase::Evaluation(stage, k) => five(g, e, stage, k, gap, wanted, entered),
+        Phase::Trial(q) => tried(g, q, value),
+        Phase::Look(c) => looked(g, c, value),
+        Phase::Bands(k) => five_bands(g, k, gap, entered),
+        Phase::Baseline => Turn {
+            progress: g,
+            phase: Phase::Ended,
+            step: Step::Report,
+        },
+        Phase::Ended => stops(g, 8, 0),
+    }
 }
 
 // ---- the opening
@@ -742,89 +915,149 @@ pub fn refuse(s: Session) -> Answer
     }
 }
 
-// A reply with an entry for each distance of the open question: a drop, or its flag for one that is missing.
+fn nine_unless(right: bool) -> usize
+    ensures { λ r. ⌜ r ≡ nineUnless right ⌝ }
+{
+    if right {
+        return 0;
+    }
+    9
+}
+
+// The number by which a reply of entries is declined, 0 where it is taken.
+fn declined_by(
+    within: bool,
+    phase: Phase,
+    evaluations: usize,
+    of_shots: bool,
+    of_wanted: bool,
+) -> usize
+    ensures { λ r. ⌜ r ≡ declinedBy within phase evaluations «of_shots» «of_wanted» ⌝ }
+{
+    if !within {
+        return 8;
+    }
+    match phase {
+        Phase::Over => 8,
+        Phase::Start => nine_unless(of_shots),
+        Phase::Evaluation(_stage, _k) => nine_unless(of_shots),
+        Phase::Trial(_q) => nine_unless(of_shots),
+        Phase::Look(_c) => {
+            if evaluations >= 1024 {
+                return 8;
+            }
+            nine_unless(of_shots)
+        }
+        Phase::Bands(_k) => nine_unless(of_wanted),
+        Phase::Baseline => nine_unless(of_shots),
+        Phase::Ended => 8,
+    }
+}
+
+// A reply with an entry for each distance of the open question: a drop, or its flag for one that is missing. The session is copied once: its arrays are lent from
+// locals, no part of it goes by value into a function that is called twice, and one expression makes the answer.
 pub fn reply<'a>(s: Session, reply: &'a [f64], missing: &'a [bool]) -> Answer
     ensures { λ r. ⌜ Replied s (now (reply .entry)) (now (missing .entry)) r ⌝ }
 {
-    let b = s.body;
     let phase = s.phase;
-    let asked = s.asked;
-    if !is_within(b.shots.n, b.wanted.n, b.progress.left) {
-        return declined(s, 8);
+    let within = is_within(s.body.shots.n, s.body.wanted.n, s.body.progress.left);
+    let of_shots = right_length(reply, missing, s.body.shots.n);
+    let of_wanted = right_length(reply, missing, s.body.wanted.n);
+    let number = declined_by(
+        within,
+        phase,
+        s.body.progress.pass.evaluations,
+        of_shots,
+        of_wanted,
+    );
+    if number != 0 {
+        return declined(s, number);
     }
-    let of_shots = right_length(reply, missing, b.shots.n);
-    let of_wanted = right_length(reply, missing, b.wanted.n);
-    let priors = b.priors;
-    match phase {
-        Phase::Over => declined(s, 8),
-        Phase::Start => {
-            if !of_shots {
-                return declined(s, 9);
-            }
-            let p = b.entered;
-            let value = value_of(
-                &b.shots.ranges,
-                &b.shots.drops,
-                &b.shots.sigmas,
-                priors,
-                p,
-                reply,
-                missing,
-            );
-            started(b, asked, value)
-        }
-        Phase::Evaluation(stage, k) => {
-            if !of_shots {
-                return declined(s, 9);
-            }
-            five(b, stage, k, asked, reply, missing)
-        }
-        Phase::Trial(q) => {
-            if !of_shots {
-                return declined(s, 9);
-            }
-            let value = value_of(
-                &b.shots.ranges,
-                &b.shots.drops,
-                &b.shots.sigmas,
-                priors,
-                q,
-                reply,
-                missing,
-            );
-            tried(b, asked, q, value)
-        }
-        Phase::Look(c) => {
-            if b.progress.pass.evaluations >= 1024 {
-                return declined(s, 8);
-            }
-            if !of_shots {
-                return declined(s, 9);
-            }
-            let value = value_of(
-                &b.shots.ranges,
-                &b.shots.drops,
-                &b.shots.sigmas,
-                priors,
-                c,
-                reply,
-                missing,
-            );
-            looked(b, asked, c, value)
-        }
-        Phase::Bands(k) => {
-            if !of_wanted {
-                return declined(s, 9);
-            }
-            five_bands(b, k, asked, reply, missing)
-        }
-        Phase::Baseline => {
-            if !of_shots {
-                return declined(s, 9);
-            }
-            concluded(b, asked, reply, missing)
-        }
-        Phase::Ended => declined(s, 8),
+    let row = row_of(phase);
+    let g = s.body.progress;
+    let p = g.point;
+    let entered = s.body.entered;
+    let priors = s.body.priors;
+    let wanted = has_wanted(s.body.wanted);
+    let ranges = s.body.shots.ranges;
+    let drops = s.body.shots.drops;
+    let sigmas = s.body.shots.sigmas;
+    let mut table = s.body.table;
+    let mut predicted = s.body.predicted;
+    let mut baseline = s.body.baseline;
+    let before = gap_before(table, baseline);
+    let found = likelihood::first_gap(reply, missing);
+    lay_if(&mut table.predicted, row == 0, reply, missing);
+    lay_pair(
+        &mut table.by_mv,
+        row == 1,
+        row == 2,
+        likelihood::mv_step(p.mv),
+        reply,
+        missing,
+    );
+    lay_pair(
+        &mut table.by_bc,
+        row == 3,
+        row == 4,
+        likelihood::bc_step(p.bc),
+        reply,
+        missing,
+    );
+    lay_if(&mut baseline, row == 5, reply, missing);
+    let gap = gap_after(row, before, found);
+    table.gap = gap;
+    keep_if(&mut predicted, fits_now(phase, gap), &table.predicted);
+    let value = value_if(
+        objective_at(phase, entered),
+        &ranges,
+        &drops,
+        &sigmas,
+        priors,
+        found,
+        reply,
+    );
+    let e = evaluation_if(
+        is_last(phase, gap),
+        g.evaluation,
+        priors,
+        p,
+        s.body.shots.n,
+        &ranges,
+        &drops,
+        &sigmas,
+        &table.predicted,
+        &table.by_mv,
+        &table.by_bc,
+    );
+    let has_baseline = baseline_if(
+        row == 5,
+        s.body.has_baseline,
+        found,
+        &ranges,
+        &drops,
+        &sigmas,
+        reply,
+    );
+    let turn = turn_of(phase, g, e, value, gap, wanted, entered);
+    let progress = turn.progress;
+    let step = turn.step;
+    let phase = turn.phase;
+    let asked = counted(s.asked, step);
+    Answer {
+        step,
+        session: Session {
+            body: Body {
+                table,
+                progress,
+                predicted,
+                baseline,
+                has_baseline,
+                ..s.body
+            },
+            phase,
+            asked,
+        },
     }
 }
 

@@ -1,17 +1,9 @@
--- `five_bands`: by whether it is the fifth reply, and by the first gap.
-use Prim.Native.Nat.{ℕ}
-use mathlib.Core.Path.{_≡_, refl, sym, _∙_, subst}
+-- `five_bands`: by the number of the question, and by a gap.
 use borrow.Author.Needs.{needs}
-use Rattle.definition.specs.Run.{readingOf}
-use Rattle.likelihood.specs.Arrays.{entriesOf}
-use Rattle.session.specs.Meaning.{rowsAt, rowsNext}
-use Rattle.session.proofs.Laws.{stands-same, stands-as}
-use Rattle.session.proofs.Steps.{wanted-within, le-of-eq-le, bands-more, bands-gap, bands-whole}
+use borrow.Author.Tests.{lt-ltb, le-ltb, eq-eqb, ne-eqb}
+use Rattle.session.specs.Turning.{fiveBandsTurn}
 use Rattle.session.proofs.five_bands.Statement.{statement}
 use Rattle.session.proofs.five_bands.Tie as tie
-
-read-reply-requires : tie.Need-read-reply-requires
-read-reply-requires c κs = (c .before .before .before .before .before .pre .1 ∙ sym (c .before .before .before .before .before .pre .2), le-of-eq-le (c .before .before .before .before .before .pre .1) (wanted-within (c .before .before .before .before .before .args .b) (c .before .before .before .before .before .pre .0)))
 
 add-stencil-point : tie.Need-add-stencil-point
 add-stencil-point c = search needs
@@ -19,28 +11,29 @@ add-stencil-point c = search needs
 stencil-point-requires : tie.Need-stencil-point-requires
 stencil-point-requires c κs = search needs
 
-add-t22 : tie.Need-add-t22
-add-t22 c = search needs
+add-t8 : tie.Need-add-t8
+add-t8 c = search needs
 
-puts-requires : tie.Need-puts-requires
-puts-requires c κs = search needs
+asks-requires : tie.Need-asks-requires
+asks-requires c κs = search needs
 
 returns : tie.Need-returns
-returns c = stands-as (c .puts .ensures) (bands-more (c .before .before .before .before .before .before .before .before .before .before .before .before .before .before .before .before .args .b) (c .before .before .before .before .before .before .before .before .before .before .read-reply .result) (c .before .before .before .before .before .before .before .before .before .before .before .before .before .before .before .before .args .k) (c .before .before .before .before .before .before .before .before .before .before .before .before .before .before .before .before .args .asked) _ (c .before .before .before .before .before .before .before .before .before .before .before .before .before .before .before .before .pre .0) (subst (λ (x : ℕ). rowsAt x (c .before .before .before .before .before .before .before .before .before .before .read-reply .result) ≡ rowsNext (c .before .before .before .before .before .before .before .before .before .before .before .before .before .before .before .before .args .k) (c .before .before .before .before .before .before .before .before .before .before .before .before .before .before .before .before .args .b .progress .point) (rowsAt x (c .before .before .before .before .before .before .before .before .before .before .before .before .before .before .before .before .args .b .table)) (readingOf (entriesOf (c .before .before .before .before .before .before .before .before .before .before .before .before .before .before .before .before .args .reply .now) (c .before .before .before .before .before .before .before .before .before .before .before .before .before .before .before .before .args .missing .now)))) (c .before .before .before .before .before .before .before .before .before .before .before .before .before .before .before .before .pre .1) (c .before .before .before .before .before .before .before .before .before .before .read-reply .ensures)) (c .before .stencil-point .result) (c .before .before .if1 .taken) (c .before .stencil-point .ensures))
+unfolding fiveBandsTurn
+returns c = simp (lt-ltb _ _ (c .before .before .if1 .taken), ← c .before .stencil-point .ensures, ← c .asks .ensures)
 
-refused-requires : tie.Need-refused-requires
-refused-requires c κs = search needs
+stops-requires : tie.Need-stops-requires
+stops-requires c κs = search needs
 
 returns-2 : tie.Need-returns-2
-returns-2 c = stands-as (c .refused .ensures) (bands-gap (c .before .before .before .before .before .before .before .before .before .before .before .before .before .before .before .before .args .b) (c .before .before .before .before .before .before .before .before .before .before .read-reply .result) (c .before .before .before .before .before .before .before .before .before .before .before .before .before .before .before .before .args .k) (c .before .before .before .before .before .before .before .before .before .before .before .before .before .before .before .before .args .asked) _ (c .before .before .before .before .before .before .before .before .before .before .before .before .before .before .before .before .pre .0) (subst (λ (x : ℕ). rowsAt x (c .before .before .before .before .before .before .before .before .before .before .read-reply .result) ≡ rowsNext (c .before .before .before .before .before .before .before .before .before .before .before .before .before .before .before .before .args .k) (c .before .before .before .before .before .before .before .before .before .before .before .before .before .before .before .before .args .b .progress .point) (rowsAt x (c .before .before .before .before .before .before .before .before .before .before .before .before .before .before .before .before .args .b .table)) (readingOf (entriesOf (c .before .before .before .before .before .before .before .before .before .before .before .before .before .before .before .before .args .reply .now) (c .before .before .before .before .before .before .before .before .before .before .before .before .before .before .before .before .args .missing .now)))) (c .before .before .before .before .before .before .before .before .before .before .before .before .before .before .before .before .pre .1) (c .before .before .before .before .before .before .before .before .before .before .read-reply .ensures)) _ (c .before .before .if1 .left) refl (c .before .if2 .taken))
+unfolding fiveBandsTurn
+returns-2 c = simp (le-ltb _ _ (c .before .before .if1 .left), ne-eqb _ _ (c .before .if2 .taken), ← c .stops .ensures)
 
-puts-requires-2 : tie.Need-puts-requires-2
-puts-requires-2 c κs = search needs
+asks-requires-2 : tie.Need-asks-requires-2
+asks-requires-2 c κs = search needs
 
 returns-3 : tie.Need-returns-3
-returns-3 c = stands-as (c .puts2 .ensures) (bands-whole (c .before .before .before .before .before .before .before .before .before .before .before .before .before .before .before .before .args .b) (c .before .before .before .before .before .before .before .before .before .before .read-reply .result) (c .before .before .before .before .before .before .before .before .before .before .before .before .before .before .before .before .args .k) (c .before .before .before .before .before .before .before .before .before .before .before .before .before .before .before .before .args .asked) _ (c .before .before .before .before .before .before .before .before .before .before .before .before .before .before .before .before .pre .0) (subst (λ (x : ℕ). rowsAt x (c .before .before .before .before .before .before .before .before .before .before .read-reply .result) ≡ rowsNext (c .before .before .before .before .before .before .before .before .before .before .before .before .before .before .before .before .args .k) (c .before .before .before .before .before .before .before .before .before .before .before .before .before .before .before .before .args .b .progress .point) (rowsAt x (c .before .before .before .before .before .before .before .before .before .before .before .before .before .before .before .before .args .b .table)) (readingOf (entriesOf (c .before .before .before .before .before .before .before .before .before .before .before .before .before .before .before .before .args .reply .now) (c .before .before .before .before .before .before .before .before .before .before .before .before .before .before .before .before .args .missing .now)))) (c .before .before .before .before .before .before .before .before .before .before .before .before .before .before .before .before .pre .1) (c .before .before .before .before .before .before .before .before .before .before .read-reply .ensures)) (c .before .before .if1 .left) (c .before .if2 .left))
+unfolding fiveBandsTurn
+returns-3 c = simp (le-ltb _ _ (c .before .before .if1 .left), eq-eqb _ _ (c .before .if2 .left), ← c .asks2 .ensures)
 
 pub five-bands-spec : {M : Type 1} → statement M
-five-bands-spec =
-    tie.close
-    (tie.spec read-reply-requires add-stencil-point stencil-point-requires add-t22 puts-requires returns refused-requires returns-2 puts-requires-2 returns-3)
+five-bands-spec = tie.close (tie.spec add-stencil-point stencil-point-requires add-t8 asks-requires returns stops-requires returns-2 asks-requires-2 returns-3)
