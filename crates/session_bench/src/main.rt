@@ -1,5 +1,6 @@
-// Runs fits over a trivial solver, each report written into memory, and writes how many questions they put in all and how many bytes their reports have: what a
-// reply costs without a flight solver. Its input is a line of three counts: runs, observations (at most 64) and requested distances (at most 64).
+// Runs fits over a solver, each report written into memory, and writes how many questions they put in all and how many bytes their reports have: what a reply
+// costs. Its input is a line of counts: runs, observations (at most 64), requested distances (at most 64) and, where they are wanted, the solver (0 for a formula of
+// a few operations, 1 for `point_mass`) and what becomes of the reports: 0 as said, 1 for the last one's line below the counts too, 2 for none being written.
 use definition::NormalPriorV1;
 use definition::Point;
 use definition::Prior;
@@ -8,10 +9,11 @@ use editing::Answer;
 use forms::ReadCount;
 use libc::STDIN_FILENO;
 use libc::STDOUT_FILENO;
+use numeric::DropUnit;
 use session::Distances;
 use session::Step;
 ghost use mathlib.Core.Path.{_≡_};
-ghost use lib.ListN.{length, take};
+ghost use lib.ListN.{take};
 
 // The drop at a distance falls with the square of the time of flight, more or less.
 fn solve(mv: f64, bc: f64, range: f64) -> f64 {
@@ -19,17 +21,33 @@ fn solve(mv: f64, bc: f64, range: f64) -> f64 {
     t * t * 1500.0
 }
 
-// The `ensures` gives the length, which lending the array as a slice needs.
-fn drops_at(ranges: &[f64; 64], mv: f64, bc: f64) -> [f64; 64]
-    ensures { λ r. ⌜ 64 ≡ length r ⌝ }
-{
-    let mut drops = [0.0; 64];
+// The drops at these distances by the formula, in the first places of the array.
+fn solve_each(drops: &mut [f64; 64], ranges: &[f64], mv: f64, bc: f64) {
     let mut i = 0usize;
     while i < 64 {
+        if i >= ranges.len() {
+            return;
+        }
         drops[i] = solve(mv, bc, ranges[i]);
         i += 1;
     }
-    drops
+}
+
+// The drops at these distances, in the first places of the array, and which are missing; gives how many.
+fn solve_at(
+    solver: u64,
+    drops: &mut [f64; 64],
+    missing: &mut [bool; 64],
+    ranges: &[f64],
+    mv: f64,
+    bc: f64,
+) -> usize {
+    if solver == 1 {
+        point_mass::fill(Point { mv, bc }, DropUnit::In, ranges, drops, missing);
+    } else {
+        solve_each(drops, ranges, mv, bc);
+    }
+    ranges.len()
 }
 
 fn ranges_from(first: f64, step: f64) -> [f64; 64] {
@@ -54,8 +72,18 @@ fn first_flags<'a>(s: &'a [bool], n: usize) -> &'a [bool]
     s
 }
 
-fn opened(ranges: [f64; 64], distances: [f64; 64], n: usize, m: usize) -> Answer {
-    let drops = drops_at(&ranges, 2730.0, 0.41);
+// An array that was written through a reference is lent as a slice here, where its length is known by its type.
+fn first_drops<'a>(drops: &'a [f64; 64], n: usize) -> &'a [f64] {
+    likelihood::first_places(drops, n)
+}
+
+fn first_missing<'a>(missing: &'a [bool; 64], n: usize) -> &'a [bool] {
+    first_flags(missing, n)
+}
+
+fn opened<'a>(ranges: &'a [f64], drops: &'a [f64], distances: &'a [f64]) -> Answer {
+    let n = ranges.len();
+    let m = distances.len();
     let sigmas = [0.5; 64];
     let future = [0.25; 64];
     let given = [true; 64];
@@ -71,72 +99,65 @@ fn opened(ranges: [f64; 64], distances: [f64; 64], n: usize, m: usize) -> Answer
             mv: 2700.0,
             bc: 0.4,
         },
-        likelihood::first_places(&ranges, n),
-        likelihood::first_places(&drops, n),
+        ranges,
+        drops,
         likelihood::first_places(&sigmas, n),
         priors,
-        likelihood::first_places(&distances, m),
+        distances,
         likelihood::first_places(&future, m),
         first_flags(&given, m),
     )
 }
 
-// A question at the first n of these distances gets its reply.
-fn replied(a: Answer, ranges: [f64; 64], n: usize, mv: f64, bc: f64) -> Answer {
-    let s = a.session;
-    let drops = drops_at(&ranges, mv, bc);
-    let missing = [false; 64];
-    editing::reply(
-        s,
-        likelihood::first_places(&drops, n),
-        first_flags(&missing, n),
-    )
-}
-
-fn next(a: Answer, ranges: [f64; 64], distances: [f64; 64], n: usize, m: usize) -> Answer {
-    let step = a.step;
-    match step {
-        Step::Question(mv, bc, list) => match list {
-            Distances::Shots => replied(a, ranges, n, mv, bc),
-            Distances::Requested => replied(a, distances, m, mv, bc),
-            Distances::New => a,
-        },
-        Step::Report => a,
-        Step::Refused(_number, _position) => a,
+// The distances of a question; no edit puts one here.
+fn asked_about<'a>(list: Distances, ranges: &'a [f64], distances: &'a [f64]) -> &'a [f64] {
+    match list {
+        Distances::Shots => ranges,
+        Distances::Requested => distances,
+        Distances::New => likelihood::first_places(distances, 0),
     }
 }
 
-fn is_question(a: Answer) -> bool {
-    let step = a.step;
-    match step {
-        Step::Question(_mv, _bc, _list) => true,
-        Step::Report => false,
-        Step::Refused(_number, _position) => false,
-    }
-}
-
-// How much there was of each.
+// How much there was of each, and the bytes of the last report.
 struct Total {
     questions: u64,
     bytes: u64,
+    last: usize,
 }
 
-fn run(ranges: [f64; 64], distances: [f64; 64], n: usize, m: usize) -> Total {
-    let mut a = opened(ranges, distances, n, m);
+// A run, its report written from the start of `out`. The session goes from answer to reply with no copy made here.
+fn run<'a>(
+    out: &mut [u8; 32768],
+    solver: u64,
+    writes: bool,
+    ranges: &'a [f64],
+    measured: &'a [f64],
+    distances: &'a [f64],
+) -> Total {
+    let mut a = opened(ranges, measured, distances);
+    let mut drops = [0.0; 64];
+    let mut missing = [false; 64];
     let mut left = 4546usize;
     while left > 0 {
-        if !is_question(a) {
+        let step = a.step;
+        let Step::Question(mv, bc, list) = step else {
             break;
-        }
-        a = next(a, ranges, distances, n, m);
+        };
+        let asked = asked_about(list, ranges, distances);
+        let k = solve_at(solver, &mut drops, &mut missing, asked, mv, bc);
+        let reply = first_drops(&drops, k);
+        let flags = first_missing(&missing, k);
+        a = editing::reply(a.session, reply, flags);
         left -= 1;
     }
-    let s = a.session;
-    let mut out = [0u8; 32768];
-    let end = answers::put_answer(&mut out, 0, a);
+    let mut end = 0usize;
+    if writes {
+        end = answers::put_answer(out, 0, a);
+    }
     Total {
-        questions: editing::asked(s),
+        questions: editing::asked(a.session),
         bytes: end as u64,
+        last: end,
     }
 }
 
@@ -186,38 +207,91 @@ fn small(n: u64) -> usize {
     n as usize
 }
 
-fn runs(times: u64, n: usize, m: usize) -> Total {
+fn runs(out: &mut [u8; 32768], times: u64, n: usize, m: usize, solver: u64, writes: bool) -> Total {
     let ranges = ranges_from(100.0, 12.5);
     let distances = ranges_from(150.0, 12.5);
+    let mut drops = [0.0; 64];
+    let mut missing = [false; 64];
+    let k = solve_at(
+        solver,
+        &mut drops,
+        &mut missing,
+        likelihood::first_places(&ranges, n),
+        2730.0,
+        0.41,
+    );
     let mut questions = 0u64;
     let mut bytes = 0u64;
+    let mut last = 0usize;
     let mut left = times;
     while left > 0 {
-        let one = run(ranges, distances, n, m);
+        let one = run(
+            out,
+            solver,
+            writes,
+            likelihood::first_places(&ranges, n),
+            first_drops(&drops, k),
+            likelihood::first_places(&distances, m),
+        );
         questions = std::num::wrapping_add_u64(questions, one.questions);
         bytes = std::num::wrapping_add_u64(bytes, one.bytes);
+        last = one.last;
         left -= 1;
     }
-    Total { questions, bytes }
+    Total {
+        questions,
+        bytes,
+        last,
+    }
+}
+
+// Where the k-th word starts, counted from 0.
+fn word_start(s: &[u8], k: usize) -> usize {
+    let mut from = 0usize;
+    let mut left = k;
+    while left > 0 {
+        from = after(s, from);
+        left -= 1;
+    }
+    from
+}
+
+// The k-th count of a line, 0 where there is none.
+fn word(s: &[u8], k: usize) -> u64 {
+    count_at(s, word_start(s, k))
 }
 
 // The runs that a line asks for.
-fn counted(line: &[u8]) -> Total {
-    let second = after(line, 0);
-    let third = after(line, second);
-    let times = count_at(line, 0);
-    let shots = small(count_at(line, second));
-    let distances = small(count_at(line, third));
-    runs(times, shots, distances)
+fn counted(out: &mut [u8; 32768], line: &[u8]) -> Total {
+    let n = small(word(line, 1));
+    let m = small(word(line, 2));
+    let writes = word(line, 4) != 2;
+    runs(out, word(line, 0), n, m, word(line, 3), writes)
+}
+
+// The first n, or all.
+fn first_bytes<'a>(s: &'a [u8], n: usize) -> &'a [u8] {
+    if n < s.len() {
+        return &s[..n];
+    }
+    s
+}
+
+fn print_line(out: &[u8; 32768], n: usize) -> bool {
+    io::write_all(STDOUT_FILENO, first_bytes(out, n)) && io::write_all(STDOUT_FILENO, &[10u8])
 }
 
 fn main() {
     let mut space = [0u8; 4096];
+    let mut out = [0u8; 32768];
     let got = libc::read(STDIN_FILENO, &mut space);
     let n = io::count(got, &space);
-    let total = counted(&space[..n]);
+    let total = counted(&mut out, &space[..n]);
     let written = io::print_decimal(STDOUT_FILENO, total.questions)
         && io::write_all(STDOUT_FILENO, &[32u8])
         && io::print_decimal(STDOUT_FILENO, total.bytes)
         && io::write_all(STDOUT_FILENO, &[10u8]);
+    if word(&space[..n], 4) == 1 {
+        let shown = print_line(&out, total.last);
+    }
 }

@@ -4,10 +4,12 @@ use Rattle.session_bench.proofs.run.Statement.{statement}
 use Rattle.session_bench.proofs.run.Tie as tie
 
 abbrev Inv-loop : tie.InvT-loop
-Inv-loop ranges distances n m a₀ left₀ a left = Unit {0}
+Inv-loop out solver writes ranges measured distances a₀ drops₀ missing₀ left₀ a drops missing left =
+    Unit {0}
 
 abbrev μ-loop : tie.MeasureT-loop
-μ-loop ranges distances n m a₀ left₀ a left = left
+μ-loop out solver writes ranges measured distances a₀ drops₀ missing₀ left₀ a drops missing left =
+    left
 
 opened-requires : tie.Need-opened-requires Inv-loop μ-loop
 opened-requires c κs = search needs
@@ -15,11 +17,23 @@ opened-requires c κs = search needs
 loop-holds : tie.Need-loop-holds Inv-loop μ-loop
 loop-holds c = tt
 
-is-question-requires : tie.Need-is-question-requires Inv-loop μ-loop
-is-question-requires c κs = search needs
+enum-known-step : tie.Need-enum-known-step Inv-loop μ-loop
+enum-known-step c = search needs
 
-next-requires : tie.Need-next-requires Inv-loop μ-loop
-next-requires c κs = search needs
+asked-about-requires : tie.Need-asked-about-requires Inv-loop μ-loop
+asked-about-requires c κs = search needs
+
+solve-at-requires : tie.Need-solve-at-requires Inv-loop μ-loop
+solve-at-requires c κs = search needs
+
+first-drops-requires : tie.Need-first-drops-requires Inv-loop μ-loop
+first-drops-requires c κs = search needs
+
+first-missing-requires : tie.Need-first-missing-requires Inv-loop μ-loop
+first-missing-requires c κs = search needs
+
+reply-requires : tie.Need-reply-requires Inv-loop μ-loop
+reply-requires c κs = search needs
 
 sub-left : tie.Need-sub-left Inv-loop μ-loop
 sub-left c = search needs
@@ -29,9 +43,6 @@ loop-less c = search needs
 
 loop-again : tie.Need-loop-again Inv-loop μ-loop
 loop-again c = tt
-
-slice-aggregate-put-answer : tie.Need-slice-aggregate-put-answer Inv-loop μ-loop
-slice-aggregate-put-answer c = search needs
 
 put-answer-requires : tie.Need-put-answer-requires Inv-loop μ-loop
 put-answer-requires c κs = search needs
@@ -50,12 +61,15 @@ run-spec =
     μ-loop
     opened-requires
     loop-holds
-    is-question-requires
-    next-requires
+    enum-known-step
+    asked-about-requires
+    solve-at-requires
+    first-drops-requires
+    first-missing-requires
+    reply-requires
     sub-left
     loop-less
     loop-again
-    slice-aggregate-put-answer
     put-answer-requires
     asked-requires
     returns)

@@ -4,10 +4,12 @@ use Rattle.session_bench.proofs.runs.Statement.{statement}
 use Rattle.session_bench.proofs.runs.Tie as tie
 
 abbrev Inv-loop : tie.InvT-loop
-Inv-loop times n m ranges distances questions₀ bytes₀ left₀ questions bytes left = Unit {0}
+Inv-loop out₀ times n m solver writes ranges distances drops k questions₀ bytes₀ last₀ left₀ out questions bytes last left =
+    Unit {0}
 
 abbrev μ-loop : tie.MeasureT-loop
-μ-loop times n m ranges distances questions₀ bytes₀ left₀ questions bytes left = left
+μ-loop out₀ times n m solver writes ranges distances drops k questions₀ bytes₀ last₀ left₀ out questions bytes last left =
+    left
 
 ranges-from-requires : tie.Need-ranges-from-requires Inv-loop μ-loop
 ranges-from-requires c κs = search needs
@@ -15,8 +17,32 @@ ranges-from-requires c κs = search needs
 ranges-from-requires-2 : tie.Need-ranges-from-requires-2 Inv-loop μ-loop
 ranges-from-requires-2 c κs = search needs
 
+slice-aggregate-first-places : tie.Need-slice-aggregate-first-places Inv-loop μ-loop
+slice-aggregate-first-places c = search needs
+
+first-places-requires : tie.Need-first-places-requires Inv-loop μ-loop
+first-places-requires c κs = search needs
+
+solve-at-requires : tie.Need-solve-at-requires Inv-loop μ-loop
+solve-at-requires c κs = search needs
+
 loop-holds : tie.Need-loop-holds Inv-loop μ-loop
 loop-holds c = tt
+
+slice-aggregate-first-places-2 : tie.Need-slice-aggregate-first-places-2 Inv-loop μ-loop
+slice-aggregate-first-places-2 c = search needs
+
+first-places-requires-2 : tie.Need-first-places-requires-2 Inv-loop μ-loop
+first-places-requires-2 c κs = search needs
+
+first-drops-requires : tie.Need-first-drops-requires Inv-loop μ-loop
+first-drops-requires c κs = search needs
+
+slice-aggregate-first-places-3 : tie.Need-slice-aggregate-first-places-3 Inv-loop μ-loop
+slice-aggregate-first-places-3 c = search needs
+
+first-places-requires-3 : tie.Need-first-places-requires-3 Inv-loop μ-loop
+first-places-requires-3 c κs = search needs
 
 run-requires : tie.Need-run-requires Inv-loop μ-loop
 run-requires c κs = search needs
@@ -47,7 +73,15 @@ runs-spec =
     μ-loop
     ranges-from-requires
     ranges-from-requires-2
+    slice-aggregate-first-places
+    first-places-requires
+    solve-at-requires
     loop-holds
+    slice-aggregate-first-places-2
+    first-places-requires-2
+    first-drops-requires
+    slice-aggregate-first-places-3
+    first-places-requires-3
     run-requires
     wrapping-add-u64-requires
     wrapping-add-u64-requires-2

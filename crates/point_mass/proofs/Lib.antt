@@ -1,0 +1,2 @@
+pub mod Solver
+pub mod Figures

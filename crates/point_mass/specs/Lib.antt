@@ -1,0 +1,3 @@
+pub mod Flight
+pub mod Solver
+pub mod Figures
