@@ -2,27 +2,14 @@
 //! `untouched.rs`, the text as it stands; `recipes.rs`, in which the three
 //! functions without a fixed last bit give way to document 01's recipes; and
 //! `unjudged.rs`, the recipes with an objective that gives a sum that is not
-//! finite too.  Each ends with `wrapper.rs`, which needs the text's private items.
+//! finite too.  Each ends with `request.rs` and `wrapper.rs`,
+//! which need the text's private items.
 
 use std::{env, fs, path::Path};
 
 const SHA256: &str = "b0f42ecfa743ac5372baa29a386ae9eccda0aa695966a13e1b1c5340410bc742";
 
-/// What is replaced, by what, and how often it must occur.
-const RECIPES: [(&str, &str, usize); 2] = [
-    (
-        "(self.a00 - self.a11).hypot(2.0 * self.a01)",
-        "crate::recipe::hypot(self.a00 - self.a11, 2.0 * self.a01)",
-        2,
-    ),
-    (
-        "    let angle = 0.5 * (2.0 * information.a01).atan2(information.a00 - information.a11);\n    \
-             let (sin, cos) = angle.sin_cos();\n",
-        "    let (x, y) = (information.a00 - information.a11, 2.0 * information.a01);\n    \
-             let (sin, cos) = crate::recipe::poll_sin_cos(x, y);\n",
-        1,
-    ),
-];
+include!("replacements.rs");
 
 /// The objective's judgement of its sum, and one that lets every sum pass.
 const JUDGED: [&str; 2] = [
@@ -33,7 +20,9 @@ const JUDGED: [&str; 2] = [
 fn main() {
     let source = Path::new("../source/truing_uncertainty.rs");
     println!("cargo:rerun-if-changed=build.rs");
-    println!("cargo:rerun-if-changed=src/wrapper.rs");
+    for file in ["replacements.rs", "src/request.rs", "src/wrapper.rs"] {
+        println!("cargo:rerun-if-changed={file}");
+    }
     println!("cargo:rerun-if-changed={}", source.display());
 
     let text = fs::read_to_string(source).expect("the estimator's text");
@@ -54,7 +43,8 @@ fn main() {
     assert_eq!(recipes.matches(JUDGED[0]).count(), 1, "occurrences of {}", JUDGED[0]);
     let unjudged = recipes.replace(JUDGED[0], JUDGED[1]);
 
-    let wrapper = fs::read_to_string("src/wrapper.rs").expect("wrapper.rs");
+    let read = |name: &str| fs::read_to_string(name).expect(name);
+    let wrapper = read("src/request.rs") + &read("src/wrapper.rs");
     let out = env::var("OUT_DIR").expect("OUT_DIR");
     let write = |name: &str, what: String| fs::write(Path::new(&out).join(name), what).expect(name);
     write("untouched.rs", format!("{text}\n{wrapper}"));

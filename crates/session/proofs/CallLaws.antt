@@ -28,6 +28,7 @@ use Rattle.fitting.proofs.Laws.{bind-assoc}
 use Rattle.fitting.specs.declared.Stage.{Stage}
 use Rattle.fitting.specs.declared.Wait.the-variants as Wait
 use Rattle.session.specs.Meaning.{measuredOf, wantedOf, predictedOf, rowsAt, rowsNext, bandRowsOf, stencilNext, pointAt, afterBands, fiveAt, fiveBandsAt, baselineOf, finishedOf, finishedWith, State, asking, standing, over as ended, after, stateAt, withinOf, state, refusedAt, reportedAt, Sizes, sizesOf, Stands, Declines, wants, either, rightLength, entriesTaken, refusalTaken, Replied, PointRefused, sumOf, valuedFrom, valueSays}
+use Rattle.session.specs.Turning.{laidIn}
 use Rattle.session.specs.declared.Body.{Body}
 use Rattle.session.specs.declared.Phase.{Phase}
 use Rattle.session.specs.declared.Phase.the-variants.{Over, Start, Evaluation, Trial, Look, Bands, Ended}
@@ -292,17 +293,7 @@ module _ (s : Session) (ds : List Float) (ms : List Bool) (a : Answer) where
 -- ---- the baseline
 
 abbrev pub withBaseline : Body → List Float → Bool → Body
-withBaseline b a present = record {
-  shots = b .shots;
-  entered = b .entered;
-  priors = b .priors;
-  wanted = b .wanted;
-  table = b .table;
-  progress = b .progress;
-  predicted = b .predicted;
-  baseline = a;
-  «has_baseline» = present;
-}
+withBaseline b a present = laidIn b (b .table) (b .predicted) a present
 
 -- the baseline that these drops make, where there is one
 abbrev present : Measured → Bool → List Float → Option Baseline

@@ -22,7 +22,7 @@ use Rattle.fitting.specs.Meaning.{fitOf, afterRows}
 use Rattle.fitting.specs.declared.Stage.{Stage}
 use Rattle.report.specs.Places.{requestedAt}
 use Rattle.session.specs.Meaning.{requestedOf, measuredOf, wantedOf, rowsAt, bandRowsOf, pointAt, rowsNext, bandedAt, fiveAt, fiveBandsAt, afterBands, after, withinOf, putAt, refusedAt, sizesOf, Stands}
-use Rattle.session.specs.Turning.{withEvaluation}
+use Rattle.session.specs.Turning.{withEvaluation, laidIn}
 use Rattle.session.specs.declared.Body.{Body}
 use Rattle.session.specs.declared.Wanted.{Wanted}
 use Rattle.session.specs.declared.Table.{Table}
@@ -106,17 +106,7 @@ table-evaluation b e q =
 -- ---- the k-th reply
 
 abbrev pub withTable : Body → Table → Body
-withTable b t = record {
-  shots = b .shots;
-  entered = b .entered;
-  priors = b .priors;
-  wanted = b .wanted;
-  table = t;
-  progress = b .progress;
-  predicted = b .predicted;
-  baseline = b .baseline;
-  «has_baseline» = b .«has_baseline»;
-}
+withTable b t = laidIn b t (b .predicted) (b .baseline) (b .«has_baseline»)
 
 module _ (b : Body) (t : Table) (k n : ℕ) (d : Reading) (h : T (withinOf b)) where
   abbrev p : Point

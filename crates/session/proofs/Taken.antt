@@ -11,10 +11,11 @@ use lib.Ieee.{Float}
 use lib.ListN.{length, take}
 use Rattle.numeric.specs.Numeric.{finite}
 use Rattle.definition.specs.Lists.{zipWith3}
-use Rattle.definition.specs.Run.{done, entries, readingOf, Reading, dropOr0}
+use Rattle.definition.specs.Run.{Run, done, entries, readingOf, Reading, dropOr0}
 use Rattle.definition.specs.Meaning.{observationsOf}
 use Rattle.definition.specs.Likelihood as likelihood
 use Rattle.definition.specs.Summary as summary
+use Rattle.definition.specs.Summary.{Finished}
 use Rattle.definition.specs.Whole as whole
 use Rattle.definition.specs.declared.Point.{Point}
 use Rattle.definition.specs.declared.Evaluation.{Evaluation as Evaluated}
@@ -24,7 +25,7 @@ use Rattle.fitting.specs.Meaning.{fitOf, afterRows}
 use Rattle.fitting.specs.declared.Stage.{Stage}
 use Rattle.fitting.specs.declared.Stage.the-variants as Stage
 use Rattle.session.specs.Meaning.{measuredOf, wantedOf, rowsAt, rowsNext, bandRowsOf, pointAt, fiveAt, fiveBandsAt, bandedAt, withinOf, sizesOf, Stands, Declines, rightLength, Replied, HasWanted, sumOf, valuedFrom, valueSays, finishedWith}
-use Rattle.session.specs.Turning.{nineUnless, declinedAt, declinedBy, laidIf, laidPair, Before, fiveRow, rowOf, gapAfter, objectiveAt, valueAt, countedBy, isAtFit, isLast, fitsNow, atFitAt, asksAt, stopsAt, turnedAt, fiveBandsTurn, Takes, Evaluates}
+use Rattle.session.specs.Turning.{nineUnless, declinedAt, declinedBy, laidIf, laidPair, Before, fiveRow, rowOf, gapAfter, objectiveAt, valueAt, countedBy, isAtFit, isLast, fitsNow, atFitAt, asksAt, stopsAt, withProgress, laidIn, turnedAt, fiveBandsTurn, Takes, Evaluates}
 use Rattle.session.specs.declared.Body.{Body}
 use Rattle.session.specs.declared.Table.{Table}
 use Rattle.session.specs.declared.Phase.{Phase}
@@ -155,19 +156,15 @@ module _ (s : Session) (ds : List Float) (ms : List Bool) (same : length ds ≡ 
   value-same (Objective.At q) = by-gap q (readingOf (entriesOf ds ms) .gap) refl
   value-same Objective.No = refl
 
--- the body with a reply laid in
-abbrev pub laidIn : Body → Table → List Float → List Float → Bool → Body
-laidIn b t predicted baseline has = record {
-  shots = b .shots;
-  entered = b .entered;
-  priors = b .priors;
-  wanted = b .wanted;
-  table = t;
-  progress = b .progress;
-  predicted = predicted;
-  baseline = baseline;
-  «has_baseline» = has;
-}
+-- the evaluation from these rows, over the whole arrays
+abbrev evaluationFrom : Body → List Float → List Float → List Float → Evaluated
+evaluationFrom b nominal byMv byBc =
+    likelihood.finishedOf (b .priors) (b .progress .point)
+    (likelihood.sumsOf (b .progress .point) (observationsOf (take (b .shots .n) (b .shots .ranges)) (b .shots .drops) (b .shots .sigmas)) (zipWith3 likelihood.rowOf nominal byMv byBc))
+
+-- whether these drops, with this first gap, make a baseline
+abbrev judgedBy : Body → ℕ → List Float → Bool
+judgedBy b gap ds = eqb gap 0 && finite (likelihood.chiSquareOf (observationsOf (b .shots .ranges) (b .shots .drops) (b .shots .sigmas)) ds)
 
 abbrev dropsOf : List Float → List Bool → List Float
 dropsOf ds ms = map dropOr0 (entriesOf ds ms)
@@ -180,15 +177,10 @@ pub record Laid (s : Session) (ds : List Float) (ms : List Bool) (t : Table) (pr
   pub gap : t .gap ≡ gapAfter (rowOf ph) (s .body .table .gap) (readingOf (entriesOf ds ms) .gap)
   pub fitted : predicted ≡ cond (fitsNow ph (t .gap)) (t .predicted) (s .body .predicted)
   pub based : baseline ≡ laidIf (eqb (rowOf ph) 5) (dropsOf ds ms) (s .body .baseline)
-  pub present : has ≡ cond (eqb (rowOf ph) 5)
-      (eqb (readingOf (entriesOf ds ms) .gap) 0 && finite (likelihood.chiSquareOf (observationsOf (s .body .shots .ranges) (s .body .shots .drops) (s .body .shots .sigmas)) ds))
-      (s .body .«has_baseline»)
+  pub present : has ≡ cond (eqb (rowOf ph) 5) (judgedBy (s .body) (readingOf (entriesOf ds ms) .gap) ds) (s .body .«has_baseline»)
   pub value : valueSays v ≡ valueAt (objectiveAt ph (s .body .entered))
       (λ q. valuedFrom (readingOf (entriesOf ds ms) .gap) (sumOf (s .body .shots .ranges) (s .body .shots .drops) (s .body .shots .sigmas) (s .body .priors) q (readingOf (entriesOf ds ms) .drops)))
-  pub evaluation : ev ≡ cond (isLast ph (t .gap))
-      (likelihood.finishedOf (s .body .priors) (s .body .progress .point)
-      (likelihood.sumsOf (s .body .progress .point) (observationsOf (take (s .body .shots .n) (s .body .shots .ranges)) (s .body .shots .drops) (s .body .shots .sigmas)) (zipWith3 likelihood.rowOf (t .predicted) (t .«by_mv») (t .«by_bc»))))
-      (s .body .progress .evaluation)
+  pub evaluation : ev ≡ cond (isLast ph (t .gap)) (evaluationFrom (s .body) (t .predicted) (t .«by_mv») (t .«by_bc»)) (s .body .progress .evaluation)
   pub asked-for : HasWanted (s .body .wanted) wanted
   pub turns : Takes ph (s .body .progress) ev v (t .gap) wanted (s .body .entered) turn
   pub places : Before (s .body .table) (s .body .baseline) (s .body .table .gap)
@@ -212,12 +204,13 @@ module _ (s : Session) (ds : List Float) (ms : List Bool) (t : Table) (predicted
   abbrev At : Phase → Type 0
   At ph = Laid s ds ms t predicted baseline has v ev wanted turn ph
 
+  -- the reply goes over no row
   table-same : t .predicted ≡ b .table .predicted → t .«by_mv» ≡ b .table .«by_mv» → t .«by_bc» ≡ b .table .«by_bc» → t .gap ≡ b .table .gap → t ≡ b .table
   table-same x y z g = λ i. record { predicted = x i; «by_mv» = y i; «by_bc» = z i; gap = g i }
 
   -- nothing but the turn
-  only-turn : t ≡ b .table → predicted ≡ b .predicted → baseline ≡ b .baseline → has ≡ b .«has_baseline» → answer ≡ turnedAt b n turn
-  only-turn x y z w = λ i. turnedAt (laidIn b (x i) (y i) (z i) (w i)) n turn
+  only-turn : (t ≡ b .table) → predicted ≡ b .predicted → baseline ≡ b .baseline → has ≡ b .«has_baseline» → {f : Run Finished} → Stands (turnedAt b n turn) (sizesOf b) none n f → Stands answer (sizesOf b) none n f
+  only-turn x y z w d = stands-as (λ i. turnedAt (laidIn b (x i) (y i) (z i) (w i)) n turn) d
 
   -- the rows with one reply more
   rows-laid : (k : ℕ) (same : length ds ≡ length ms) (places : length ds ≤ 64)
@@ -265,16 +258,13 @@ module _ (s : Session) (ds : List Float) (ms : List Bool) (t : Table) (predicted
   row-not-5 (suc (suc (suc zero))) = refl
   row-not-5 (suc (suc (suc (suc j)))) = refl
 
-  abbrev Judged : Bool
-  Judged = eqb (d .gap) 0 && finite (likelihood.chiSquareOf (observationsOf (b .shots .ranges) (b .shots .drops) (b .shots .sigmas)) ds)
-
   -- a reply to one of the five leaves the baseline as it was
-  module _ (k : ℕ) (based : baseline ≡ laidIf (eqb (fiveRow k) 5) (dropsOf ds ms) (b .baseline)) (present : has ≡ cond (eqb (fiveRow k) 5) Judged (b .«has_baseline»)) where
+  module _ (k : ℕ) (based : baseline ≡ laidIf (eqb (fiveRow k) 5) (dropsOf ds ms) (b .baseline)) (present : has ≡ cond (eqb (fiveRow k) 5) (judgedBy b (d .gap) ds) (b .«has_baseline»)) where
     kept-baseline : baseline ≡ b .baseline
     kept-baseline = based ∙ ap (λ (x : Bool). laidIf x (dropsOf ds ms) (b .baseline)) (row-not-5 k)
 
     kept-present : has ≡ b .«has_baseline»
-    kept-present = present ∙ ap (λ (x : Bool). cond x Judged (b .«has_baseline»)) (row-not-5 k)
+    kept-present = present ∙ ap (λ (x : Bool). cond x (judgedBy b (d .gap) ds) (b .«has_baseline»)) (row-not-5 k)
 
     -- the answer with these drops at the fit, and this turn
     table-answer : (x : List Float) (u : Turn) → predicted ≡ x → turn ≡ u → answer ≡ turnedAt (laidIn b t x (b .baseline) (b .«has_baseline»)) n u
@@ -298,18 +288,13 @@ module _ (s : Session) (ds : List Float) (ms : List Bool) (t : Table) (predicted
         ∙ ap (λ (w : Bool). cond ((w && eqb (t .gap) 0) && isAtFit stage) (t .predicted) (b .predicted)) e
         ∙ ap (λ (w : Bool). cond ((x && w) && isAtFit stage) (t .predicted) (b .predicted)) f
 
-    abbrev fresh : Evaluated
-    fresh =
-        likelihood.finishedOf (b .priors) p
-        (likelihood.sumsOf p (observationsOf (take (b .shots .n) (b .shots .ranges)) (b .shots .drops) (b .shots .sigmas)) (zipWith3 likelihood.rowOf (t .predicted) (t .«by_mv») (t .«by_bc»)))
-
     -- the evaluation is that of the rows
     evaluation-is : leb 4 k ≡ true → eqb (t .gap) 0 ≡ true → likelihood.evaluationOf (measuredOf b) p (rowsAt (b .shots .n) t) ≡ ev
     evaluation-is e f =
         table-evaluation (withTable b t) ev
         (l .evaluation
-        ∙ ap (λ (w : Bool). cond (w && eqb (t .gap) 0) fresh (b .progress .evaluation)) e
-        ∙ ap (λ (w : Bool). cond w fresh (b .progress .evaluation)) f)
+        ∙ ap (λ (w : Bool). cond (w && eqb (t .gap) 0) (evaluationFrom b (t .predicted) (t .«by_mv») (t .«by_bc»)) (b .progress .evaluation)) e
+        ∙ ap (λ (w : Bool). cond w (evaluationFrom b (t .predicted) (t .«by_mv») (t .«by_bc»)) (b .progress .evaluation)) f)
 
     at-fit : (w : Bool) → wanted ≡ w → predicted ≡ t .predicted → turn ≡ atFitAt (b .progress) ev wanted (b .entered) → t .gap ≡ 0
         → Stands answer (sizesOf b) none n (bandedAt (withTable b t) ev)
@@ -395,14 +380,14 @@ module _ (s : Session) (ds : List Float) (ms : List Bool) (t : Table) (predicted
   taken-at Over e r l = absurd r
   taken-at Start e r l =
       replied-start s ds ms answer h r v (l .value) e
-      (stands-as (only-turn (table-same (l .nominal) (l .byMv) (l .byBc) (l .gap)) (l .fitted) (l .based) (l .present)) (l .turns .turns .stands b n h))
+      (only-turn (table-same (l .nominal) (l .byMv) (l .byBc) (l .gap)) (l .fitted) (l .based) (l .present) (l .turns .turns .stands b n h))
   taken-at (Evaluation stage k) e r l = replied-evaluation s ds ms answer h r stage k e (five-stands stage k r l (leb 4 k) (eqb (t .gap) 0) refl refl)
   taken-at (Trial q) e r l =
       replied-trial s ds ms answer h r v q (l .value) e
-      (stands-as (only-turn (table-same (l .nominal) (l .byMv) (l .byBc) (l .gap)) (l .fitted) (l .based) (l .present)) (l .turns .turns (left-within b h) .stands b n h))
+      (only-turn (table-same (l .nominal) (l .byMv) (l .byBc) (l .gap)) (l .fitted) (l .based) (l .present) (l .turns .turns (left-within b h) .stands b n h))
   taken-at (Look c) e r l =
       replied-look s ds ms answer h (r .0) v c (l .value) e (r .1)
-      (stands-as (only-turn (table-same (l .nominal) (l .byMv) (l .byBc) (l .gap)) (l .fitted) (l .based) (l .present)) (l .turns .turns (left-within b h) (r .1) .stands b n h))
+      (only-turn (table-same (l .nominal) (l .byMv) (l .byBc) (l .gap)) (l .fitted) (l .based) (l .present) (l .turns .turns (left-within b h) (r .1) .stands b n h))
   taken-at (Bands k) e r l = replied-bands s ds ms answer h k r e (bands-stands k r l (ltb k 4) (eqb (t .gap) 0) refl refl)
   taken-at Phase.Baseline e r l = replied-baseline s ds ms answer h r e (baseline-stands r l)
   taken-at Ended e r l = absurd r
@@ -413,6 +398,13 @@ pub replied-taken : (s : Session) (ds : List Float) (ms : List Bool) (t : Table)
 replied-taken s ds ms t predicted baseline has v ev wanted turn a m q z l e =
     let w = within-right s ds ms (s .phase) (withinOf (s .body)) refl (sym q ∙ z) in
     subst (Replied s ds ms) (sym e) (taken-at s ds ms t predicted baseline has v ev wanted turn (w .0) (s .phase) refl (w .1) l)
+
+-- the answer from its parts
+abbrev answerWith : Session → Table → List Float → List Float → Bool → Turn → ℕ → Answer
+answerWith s t predicted baseline has turn asked = record {
+  step = turn .step;
+  session = record { body = withProgress (laidIn (s .body) t predicted baseline has) (turn .progress); phase = turn .phase; asked = asked };
+}
 
 -- the same, from what each step ensures of its own result
 pub replied-steps : (s : Session) (ds : List Float) (ms : List Bool) (nominal byMv byBc predicted baseline : List Float) (has fits last : Bool) (o : Objective) (v : Value) (ev : Evaluated) (wanted : Bool) (turn : Turn)
@@ -430,32 +422,12 @@ pub replied-steps : (s : Session) (ds : List Float) (ms : List Bool) (nominal by
     → o ≡ objectiveAt (s .phase) (s .body .entered)
     → valueSays v ≡ valueAt o (λ q. valuedFrom found (sumOf (s .body .shots .ranges) (s .body .shots .drops) (s .body .shots .sigmas) (s .body .priors) q ds))
     → last ≡ isLast (s .phase) gap
-    → ev ≡ cond last
-    (likelihood.finishedOf (s .body .priors) (s .body .progress .point)
-    (likelihood.sumsOf (s .body .progress .point) (observationsOf (take (s .body .shots .n) (s .body .shots .ranges)) (s .body .shots .drops) (s .body .shots .sigmas)) (zipWith3 likelihood.rowOf nominal byMv byBc)))
-    (s .body .progress .evaluation)
-    → has ≡ cond (eqb row 5) (eqb found 0 && finite (likelihood.chiSquareOf (observationsOf (s .body .shots .ranges) (s .body .shots .drops) (s .body .shots .sigmas)) ds)) (s .body .«has_baseline»)
+    → ev ≡ cond last (evaluationFrom (s .body) nominal byMv byBc) (s .body .progress .evaluation)
+    → has ≡ cond (eqb row 5) (judgedBy (s .body) found ds) (s .body .«has_baseline»)
     → HasWanted (s .body .wanted) wanted
     → Takes (s .phase) (s .body .progress) ev v gap wanted (s .body .entered) turn
     → asked ≡ countedBy (turn .step) (s .asked)
-    → Replied s ds ms (record {
-      step = turn .step;
-      session = record {
-        body = record {
-          shots = s .body .shots;
-          entered = s .body .entered;
-          priors = s .body .priors;
-          wanted = s .body .wanted;
-          table = record { predicted = nominal; «by_mv» = byMv; «by_bc» = byBc; gap = gap };
-          progress = turn .progress;
-          predicted = predicted;
-          baseline = baseline;
-          «has_baseline» = has;
-        };
-        phase = turn .phase;
-        asked = asked;
-      };
-    })
+    → Replied s ds ms (answerWith s (record { predicted = nominal; «by_mv» = byMv; «by_bc» = byBc; gap = gap }) predicted baseline has turn asked)
 replied-steps s ds ms nominal byMv byBc predicted baseline has fits last o v ev wanted turn m row old found gap asked mvStep bcStep q z r f x sm y sb w bs before g ft p o-is value l e h a t n =
     replied-taken s ds ms (record { predicted = nominal; «by_mv» = byMv; «by_bc» = byBc; gap = gap }) predicted baseline has v ev wanted turn _ m q z
     (record {
@@ -467,33 +439,11 @@ replied-steps s ds ms nominal byMv byBc predicted baseline has fits last o v ev 
       gap = g ∙ (λ i. gapAfter (r i) (before .is i) (f i));
       fitted = p ∙ (λ i. cond (ft i) nominal (s .body .predicted));
       based = bs ∙ (λ i. laidIf (eqb (r i) 5) (dropsOf ds ms) (s .body .baseline));
-      present =
-          h ∙ (λ i. cond (eqb (r i) 5) (eqb (f i) 0 && finite (likelihood.chiSquareOf (observationsOf (s .body .shots .ranges) (s .body .shots .drops) (s .body .shots .sigmas)) ds)) (s .body .«has_baseline»));
+      present = h ∙ (λ i. cond (eqb (r i) 5) (judgedBy (s .body) (f i) ds) (s .body .«has_baseline»));
       value = value ∙ (λ i. valueAt (o-is i) (λ q. valuedFrom (f i) (sumOf (s .body .shots .ranges) (s .body .shots .drops) (s .body .shots .sigmas) (s .body .priors) q ds))) ∙ value-same s ds ms (taken-same s ds ms m q z) (objectiveAt (s .phase) (s .body .entered));
-      evaluation =
-          e ∙ (λ i. cond (l i)
-          (likelihood.finishedOf (s .body .priors) (s .body .progress .point)
-          (likelihood.sumsOf (s .body .progress .point) (observationsOf (take (s .body .shots .n) (s .body .shots .ranges)) (s .body .shots .drops) (s .body .shots .sigmas)) (zipWith3 likelihood.rowOf nominal byMv byBc)))
-          (s .body .progress .evaluation));
+      evaluation = e ∙ (λ i. cond (l i) (evaluationFrom (s .body) nominal byMv byBc) (s .body .progress .evaluation));
       asked-for = a;
       turns = t;
-      places = record { is = refl; ofPredicted = before .ofPredicted; ofMv = before .ofMv; ofBc = before .ofBc; ofBaseline = before .ofBaseline };
+      places = subst (Before (s .body .table) (s .body .baseline)) (before .is) before;
     })
-    (λ i. record {
-      step = turn .step;
-      session = record {
-        body = record {
-          shots = s .body .shots;
-          entered = s .body .entered;
-          priors = s .body .priors;
-          wanted = s .body .wanted;
-          table = record { predicted = nominal; «by_mv» = byMv; «by_bc» = byBc; gap = gap };
-          progress = turn .progress;
-          predicted = predicted;
-          baseline = baseline;
-          «has_baseline» = has;
-        };
-        phase = turn .phase;
-        asked = n i;
-      };
-    })
+    (λ i. answerWith s (record { predicted = nominal; «by_mv» = byMv; «by_bc» = byBc; gap = gap }) predicted baseline has turn (n i))

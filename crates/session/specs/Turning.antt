@@ -169,6 +169,20 @@ withProgress b g = record {
   «has_baseline» = b .«has_baseline»;
 }
 
+-- the body with a reply laid in
+abbrev pub laidIn : Body → Table → List Float → List Float → Bool → Body
+laidIn b t predicted baseline has = record {
+  shots = b .shots;
+  entered = b .entered;
+  priors = b .priors;
+  wanted = b .wanted;
+  table = t;
+  progress = b .progress;
+  predicted = predicted;
+  baseline = baseline;
+  «has_baseline» = has;
+}
+
 -- the answer of a body that takes the turn
 abbrev pub turnedAt : Body → ℕ → Turn → Answer
 turnedAt b n t = record { step = t .step; session = record { body = withProgress b (t .progress); phase = t .phase; asked = countedBy (t .step) n } }
