@@ -1,25 +1,26 @@
 -- The book and the definition agree at every call of a host whose replies come from one solver: by induction over the calls. Assumes nothing.
-use Prim.Native.Nat.{ℕ}
+use Prim.Native.Nat.{ℕ, zero, suc, _+_}
 use mathlib.Core.Path.{_≡_, refl, sym, ap, _∙_, subst}
 use mathlib.Core.Bool.{Bool, true, false, cond}
 use mathlib.Core.List.{List, [], _∷_, _++_}
 use mathlib.Core.Option.{Option, none, some}
+use mathlib.Core.Logic.{_↔_}
 use native.Mathlib.Omega.{arith}
 use lib.ListN.{length}
 use lib.Ieee.{Float}
 use Rattle.definition.specs.Request.{Requested, Opening}
 use Rattle.definition.specs.Run.{Run, done, refuse, ask, Reply, refused, entries, Which, shots, distances, new}
-use Rattle.definition.specs.Host.{Outcome, ends, refuses, Host, play}
-use Rattle.definition.specs.Summary.{Finished, Report}
+use Rattle.definition.specs.Host.{Outcome, ends, refuses, Host, play, questions}
+use Rattle.definition.specs.Summary.{Finished, Report, reportOf}
 use Rattle.definition.specs.Whole.{whole, Edit, putIn, takeOut, exchange, edited, placed, edit}
 use Rattle.definition.specs.declared.Point.{Point}
 use Rattle.likelihood.specs.Arrays.{entriesOf}
-use Rattle.fresh.specs.Solver.{Solver, replyAt, hostOf, withList, fresh}
+use Rattle.fresh.specs.Solver.{Solver, replyAt, hostOf, withList, fresh, BandAlone}
 use Rattle.fresh.proofs.Edits.{edit-fresh, list-kept}
 use Rattle.fresh.proofs.Reports.{only-band}
-use Rattle.session.specs.Meaning.{Said, head, kindOf, sizesFor, wants, rightLength}
+use Rattle.session.specs.Meaning.{Said, report, refusal, head, kindOf, sizesFor, wants, rightLength}
 use Rattle.demands.specs.Calls.{Call, reply, refusePoint, change, resume, Editing, At, first, rest, keptBy, finishedBy, finishedAt, reportBy, Taking, declines, takes, takingReply, takingRefusal, takingEdit, stance, withReply, withEdit, taken, unlessDeclined, after, due, dueTo}
-use Rattle.demands.specs.Book.{sizeOf, heard, Where, inRun, idle, inEdit, Book, isReport, opened, reports, ruledReply, ruledRefusal, ruledEdit, ruled, standsBy, settled, editHeard, runHeard, replyHeard, callHeard, booked, Question, aboutOf, questionIn, Trail, begun, followed, Replies, Comes, FromSolver, saidBy, reportFrom, Ends, Edits, standing, Holds}
+use Rattle.demands.specs.Book.{sizeOf, heard, Where, inRun, idle, inEdit, Book, isReport, opened, reports, ruledReply, ruledRefusal, ruledEdit, ruled, standsBy, settled, editHeard, runHeard, replyHeard, callHeard, booked, Question, aboutOf, questionIn, Trail, repliesWith, begun, followed, Replies, Comes, FromSolver, saidBy, reportFrom, Ends, Edits, standing, Holds}
 use Rattle.demands.proofs.Questions.{Only, only-whole, only-edit}
 
 -- ---- in general
@@ -33,6 +34,9 @@ not-none e = let z : _≡_ {A = ℕ} 0 1 = cc in absurd (omega arith)
 not-both : {A : Type 0} → _≡_ {A = Bool} true false → A
 not-both e = let z : _≡_ {A = ℕ} 0 1 = cc in absurd (omega arith)
 
+no-refusal : {n i : ℕ} {A : Type 0} → report ≡ refusal n i → A
+no-refusal e = let z : _≡_ {A = ℕ} 0 1 = cc in absurd (omega arith)
+
 if-takes : (b : Bool) (n : ℕ) → cond b takes (declines n) ≡ takes → b ≡ true
 if-takes true n e = refl
 if-takes false n e = apart e
@@ -41,6 +45,9 @@ if-takes false n e = apart e
 abbrev endOf : Outcome Finished → Option Finished
 endOf (ends c) = some c
 endOf (refuses n i) = none
+
+same-end : {c d : Finished} → ends c ≡ ends d → c ≡ d
+same-end e = cc
 
 report-end : (f : Outcome Finished) → reportBy (endOf f) ≡ reportFrom none f
 report-end (ends c) = refl
@@ -74,14 +81,15 @@ module _ (σ : Solver) (o : Opening) where
   Suits h at w = (n : ℕ) (p : Point) → h p w ≡ replyAt σ p (aboutOf o (at n) (kindOf w))
 
   -- what is left of the run comes to the fresh outcome of the opening's list
-  record RunGoes (kept : Option Finished) (left : Run Finished) (list : List Requested) : Type 0 where
+  record RunGoes (kept : Option Finished) (left : Run Finished) (list : List Requested) (replies : ℕ) : Type 0 where
     pub none-kept : kept ≡ none
     pub listed : list ≡ o .requested
     pub suits : Only (Suits (hostOf σ o) inRun) left
     pub plays : play (hostOf σ o) left ≡ fresh σ o (o .requested)
+    pub counted : replies + questions (hostOf σ o) left ≡ questions (hostOf σ o) (whole o)
 
   -- what is left of an edit comes to the fresh outcome of the edited list; kept is the finished run of the list as it is
-  record EditGoes (e : Edit) (kept : Option Finished) (left : Run Finished) (list : List Requested) : Type 0 where
+  record EditGoes (e : Edit) (kept : Option Finished) (left : Run Finished) (list : List Requested) (replies : ℕ) : Type 0 where
     pub was : Finished
     pub was-kept : kept ≡ some was
     pub before : fresh σ o list ≡ ends was
@@ -89,6 +97,7 @@ module _ (σ : Solver) (o : Opening) where
     pub fits : placed e (length list) ≡ true
     pub suits : Only (Suits (hostOf σ (withList o list)) (λ n. inEdit n e)) left
     pub plays : play (hostOf σ (withList o list)) left ≡ fresh σ o (edited e list)
+    pub counted : replies + questions (hostOf σ (withList o list)) left ≡ questions (hostOf σ (withList o list)) (edit was e)
 
   -- a question is left, and this one is open
   record Opens (at : ℕ → Where) (n : ℕ) (left : Run Finished) (asked : Option Question) : Type 0 where
@@ -101,44 +110,44 @@ module _ (σ : Solver) (o : Opening) where
     pub finished : finishedBy kept left ≡ cond (reports σ o (o .requested)) (endOf (fresh σ o list)) none
     pub reported : reports σ o (o .requested) ≡ true → reports σ o list ≡ true
 
-  abbrev Stands : Option Finished → Run Finished → List Requested → Option Question → Where → Type 0
-  Stands kept left list asked (inRun n) = RunGoes kept left list × Opens inRun n left asked
-  Stands kept left list asked idle = Rests kept left list
-  Stands kept left list asked (inEdit n e) = EditGoes e kept left list × Opens (λ n. inEdit n e) n left asked
+  abbrev Stands : Option Finished → Run Finished → List Requested → Option Question → ℕ → Where → Type 0
+  Stands kept left list asked m (inRun n) = RunGoes kept left list m × Opens inRun n left asked
+  Stands kept left list asked m idle = Rests kept left list
+  Stands kept left list asked m (inEdit n e) = EditGoes e kept left list m × Opens (λ n. inEdit n e) n left asked
 
   abbrev StandsBy : Option Finished → Run Finished → Trail → Type 0
-  StandsBy kept left u = Stands kept left (u .book .list) (u .asked) (u .book .at)
+  StandsBy kept left u = Stands kept left (u .book .list) (u .asked) (u .replies) (u .book .at)
 
 pub record Agrees (σ : Solver) (o : Opening) (t : At) (u : Trail) : Type 0 where
   is : StandsBy σ o (keptBy (t .last)) (rest o t) u
 
 -- ---- what comes next is heard
 
--- the trail with this book and what was said
-abbrev noted : Opening → Book → Said → Trail
-noted o b said = record { book = b; asked = questionIn o (b .at) said }
+-- the trail with this book, what was said and so many replies
+abbrev noted : Opening → Book → Said → ℕ → Trail
+noted o b said m = record { book = b; asked = questionIn o (b .at) said; replies = m }
 
 module _ (σ : Solver) (o : Opening) where
-  run-heard : (kept : Option Finished) (left : Run Finished) (list : List Requested) → RunGoes σ o kept left list
-      → StandsBy σ o kept left (noted o (runHeard σ o list (heard o (head left))) (head left))
-  run-heard kept (ask p w k) list g = (g, record { hears = refl; asks = refl })
-  run-heard kept (done c) list g =
+  run-heard : (kept : Option Finished) (left : Run Finished) (list : List Requested) (m : ℕ) → RunGoes σ o kept left list m
+      → StandsBy σ o kept left (noted o (runHeard σ o list (heard o (head left))) (head left) m)
+  run-heard kept (ask p w k) list m g = (g, record { hears = refl; asks = refl })
+  run-heard kept (done c) list m g =
       let f : fresh σ o (o .requested) ≡ ends c = sym (g .plays) in
       let is : fresh σ o list ≡ ends c = ap (fresh σ o) (g .listed) ∙ f in
       record { hears = refl; finished = rw (f, is); reported = λ b. ap isReport is }
-  run-heard kept (refuse n i) list g =
+  run-heard kept (refuse n i) list m g =
       let f : fresh σ o (o .requested) ≡ refuses n i = sym (g .plays) in
       record { hears = refl; finished = g .none-kept ∙ rw f; reported = λ b. ap (λ (l : List Requested). reports σ o l) (g .listed) ∙ b }
 
-  edit-heard : (e : Edit) (kept : Option Finished) (left : Run Finished) (list : List Requested) → EditGoes σ o e kept left list
-      → StandsBy σ o kept left (noted o (editHeard σ o e list (heard o (head left))) (head left))
-  edit-heard e kept (ask p w k) list g = (g, record { hears = refl; asks = refl })
-  edit-heard e kept (done c) list g =
+  edit-heard : (e : Edit) (kept : Option Finished) (left : Run Finished) (list : List Requested) (m : ℕ) → EditGoes σ o e kept left list m
+      → StandsBy σ o kept left (noted o (editHeard σ o e list (heard o (head left))) (head left) m)
+  edit-heard e kept (ask p w k) list m g = (g, record { hears = refl; asks = refl })
+  edit-heard e kept (done c) list m g =
       let f : fresh σ o (edited e list) ≡ ends c = sym (g .plays) in
       let is : settled σ o e list ≡ edited e list = ap (λ (b : Bool). cond b (edited e list) list) (ap isReport f) in
       let same : fresh σ o (settled σ o e list) ≡ ends c = ap (fresh σ o) is ∙ f in
       record { hears = refl; finished = rw (g .reported, same); reported = λ b. ap isReport same }
-  edit-heard e kept (refuse n i) list g =
+  edit-heard e kept (refuse n i) list m g =
       let f : fresh σ o (edited e list) ≡ refuses n i = sym (g .plays) in
       let is : settled σ o e list ≡ list = ap (λ (b : Bool). cond b (edited e list) list) (ap isReport f) in
       let same : fresh σ o (settled σ o e list) ≡ ends (g .was) = ap (fresh σ o) is ∙ g .before in
@@ -151,11 +160,30 @@ module _ (σ : Solver) (o : Opening) where
   ends-so h kept (refuse n i) f before e k z = record { says = ap saidBy e; reads = k ∙ ap (reportFrom before) e }
   ends-so h kept (ask p w k) f before e l z = not-none z
 
+  -- no question comes exactly where the play has put them all
+  stops-so : (h : Host) (left : Run Finished) (n all : ℕ) → n + questions h left ≡ all → (heard o (head left) ≡ none) ↔ (n ≡ all)
+  stops-so h (done c) n all e = (λ z. omega arith, λ z. refl)
+  stops-so h (refuse m i) n all e = (λ z. omega arith, λ z. refl)
+  stops-so h (ask p w k) n all e = (λ z. not-none z, λ z. absurd (omega arith))
+
+  -- an edit has ended: its finished run, the report that stands then, and what is new in it
+  abbrev Ended : Edit → Option Finished → Option Report → Said → Type 0
+  Ended e kept stands said =
+      (was : Finished) × (new : Report) × (kept ≡ some was) × (stands ≡ some new)
+      × (said ≡ report → BandAlone e (reportOf was) new) × ((n i : ℕ) → said ≡ refusal n i → new ≡ reportOf was)
+
+  changes-so : (e : Edit) (kept : Option Finished) (left : Run Finished) (list : List Requested) (m : ℕ) → EditGoes σ o e kept left list m
+      → heard o (head left) ≡ none → Ended e kept (reportBy (finishedBy kept left)) (head left)
+  changes-so e kept (done d) list m g z =
+      (g .was, reportOf d, g .was-kept, refl, λ r. only-band σ o list (g .was) d e (g .before) (g .fits) (sym (g .plays)), λ n i r. no-refusal r)
+  changes-so e kept (refuse n i) list m g z = (g .was, reportOf (g .was), g .was-kept, ap reportBy (g .was-kept), λ r. no-refusal (sym r), λ n i r. refl)
+  changes-so e kept (ask p w k) list m g z = not-none z
+
   -- ---- at the opening
 
-  first-goes : RunGoes σ o none (whole o) (o .requested)
+  first-goes : RunGoes σ o none (whole o) (o .requested) 0
   unfolding fresh
-  first-goes = record { none-kept = refl; listed = refl; suits = only-whole _ (λ n p. refl) (λ n p. refl) o; plays = refl }
+  first-goes = record { none-kept = refl; listed = refl; suits = only-whole _ (λ n p. refl) (λ n p. refl) o; plays = refl; counted = omega arith }
 
   opened-so : (h : Option ℕ) → opened o h ≡ runHeard σ o (o .requested) h
   opened-so (some n) = refl
@@ -168,21 +196,21 @@ module _ (σ : Solver) (o : Opening) where
   open-none n kept (refuse m i) e = not-none (sym e)
   open-none n kept (ask p w k) e = refl
 
-  reads-so : (kept : Option Finished) (left : Run Finished) (list : List Requested) (asked : Option Question) (at : Where) → Stands σ o kept left list asked at
+  reads-so : (kept : Option Finished) (left : Run Finished) (list : List Requested) (asked : Option Question) (m : ℕ) (at : Where) → Stands σ o kept left list asked m at
       → reportBy (finishedBy kept left) ≡ cond (standsBy σ o at) (reportFrom none (fresh σ o list)) none
-  reads-so kept left list asked (inRun n) s = ap reportBy (open-none n kept left (s .1 .hears))
-  reads-so kept left list asked idle s = ap reportBy (s .finished) ∙ by (reports σ o (o .requested))
+  reads-so kept left list asked m (inRun n) s = ap reportBy (open-none n kept left (s .1 .hears))
+  reads-so kept left list asked m idle s = ap reportBy (s .finished) ∙ by (reports σ o (o .requested))
     where
       by : (b : Bool) → reportBy (cond b (endOf (fresh σ o list)) none) ≡ cond b (reportFrom none (fresh σ o list)) none
       by true = report-end (fresh σ o list)
       by false = refl
-  reads-so kept left list asked (inEdit n e) s = ap reportBy (open-none n kept left (s .1 .hears))
+  reads-so kept left list asked m (inEdit n e) s = ap reportBy (open-none n kept left (s .1 .hears))
 
-  reported-so : (kept : Option Finished) (left : Run Finished) (list : List Requested) (asked : Option Question) (at : Where) → Stands σ o kept left list asked at
+  reported-so : (kept : Option Finished) (left : Run Finished) (list : List Requested) (asked : Option Question) (m : ℕ) (at : Where) → Stands σ o kept left list asked m at
       → standsBy σ o at ≡ true → reports σ o list ≡ true
-  reported-so kept left list asked (inRun n) s b = not-both (sym b)
-  reported-so kept left list asked idle s b = s .reported b
-  reported-so kept left list asked (inEdit n e) s b = not-both (sym b)
+  reported-so kept left list asked m (inRun n) s b = not-both (sym b)
+  reported-so kept left list asked m idle s b = s .reported b
+  reported-so kept left list asked m (inEdit n e) s b = not-both (sym b)
 
   sized-so : (w : Which) → sizeOf o (kindOf w) ≡ wants (sizesFor o) w
   sized-so shots = refl
@@ -205,11 +233,11 @@ module _ (σ : Solver) (o : Opening) where
     reply-none (refuse m i) e = refl
     reply-none (ask p w k) e = not-none e
 
-    reply-so : (kept : Option Finished) (left : Run Finished) (list : List Requested) (asked : Option Question) (at : Where) → Stands σ o kept left list asked at
+    reply-so : (kept : Option Finished) (left : Run Finished) (list : List Requested) (asked : Option Question) (m : ℕ) (at : Where) → Stands σ o kept left list asked m at
         → ruledReply σ o at ds ms ≡ takingReply (sizesFor o) left ds ms
-    reply-so kept left list asked (inRun n) s = reply-open n left (s .1 .hears)
-    reply-so kept left list asked idle s = reply-none left (s .hears)
-    reply-so kept left list asked (inEdit n e) s = reply-open n left (s .1 .hears)
+    reply-so kept left list asked m (inRun n) s = reply-open n left (s .1 .hears)
+    reply-so kept left list asked m idle s = reply-none left (s .hears)
+    reply-so kept left list asked m (inEdit n e) s = reply-open n left (s .1 .hears)
 
   refusal-open : (n : ℕ) (left : Run Finished) → heard o (head left) ≡ some n → takes ≡ takingRefusal left
   refusal-open n (done c) e = not-none (sym e)
@@ -221,18 +249,18 @@ module _ (σ : Solver) (o : Opening) where
   refusal-none (refuse m i) e = refl
   refusal-none (ask p w k) e = not-none e
 
-  refusal-so : (kept : Option Finished) (left : Run Finished) (list : List Requested) (asked : Option Question) (at : Where) → Stands σ o kept left list asked at
+  refusal-so : (kept : Option Finished) (left : Run Finished) (list : List Requested) (asked : Option Question) (m : ℕ) (at : Where) → Stands σ o kept left list asked m at
       → ruledRefusal σ o at ≡ takingRefusal left
-  refusal-so kept left list asked (inRun n) s = refusal-open n left (s .1 .hears)
-  refusal-so kept left list asked idle s = refusal-none left (s .hears)
-  refusal-so kept left list asked (inEdit n e) s = refusal-open n left (s .1 .hears)
+  refusal-so kept left list asked m (inRun n) s = refusal-open n left (s .1 .hears)
+  refusal-so kept left list asked m idle s = refusal-none left (s .hears)
+  refusal-so kept left list asked m (inEdit n e) s = refusal-open n left (s .1 .hears)
 
   -- the list of a finished run is the book's
-  edit-so : (e : Edit) (kept : Option Finished) (left : Run Finished) (list : List Requested) (asked : Option Question) (at : Where) → Stands σ o kept left list asked at
+  edit-so : (e : Edit) (kept : Option Finished) (left : Run Finished) (list : List Requested) (asked : Option Question) (m : ℕ) (at : Where) → Stands σ o kept left list asked m at
       → cond (standsBy σ o at) (cond (placed e (length list)) takes (declines 15)) (declines 14) ≡ takingEdit (finishedBy kept left) e
-  edit-so e kept left list asked (inRun n) s = ap (λ (q : Option Finished). takingEdit q e) (sym (open-none n kept left (s .1 .hears)))
-  edit-so e kept left list asked (inEdit n f) s = ap (λ (q : Option Finished). takingEdit q e) (sym (open-none n kept left (s .1 .hears)))
-  edit-so e kept left list asked idle s = by (reports σ o (o .requested)) (s .reported) (fresh σ o list) refl ∙ ap (λ (q : Option Finished). takingEdit q e) (sym (s .finished))
+  edit-so e kept left list asked m (inRun n) s = ap (λ (q : Option Finished). takingEdit q e) (sym (open-none n kept left (s .1 .hears)))
+  edit-so e kept left list asked m (inEdit n f) s = ap (λ (q : Option Finished). takingEdit q e) (sym (open-none n kept left (s .1 .hears)))
+  edit-so e kept left list asked m idle s = by (reports σ o (o .requested)) (s .reported) (fresh σ o list) refl ∙ ap (λ (q : Option Finished). takingEdit q e) (sym (s .finished))
     where
       by : (b : Bool) → (b ≡ true → reports σ o list ≡ true) → (f : Outcome Finished) → fresh σ o list ≡ f
           → cond b (cond (placed e (length list)) takes (declines 15)) (declines 14) ≡ takingEdit (cond b (endOf (fresh σ o list)) none) e
@@ -249,32 +277,33 @@ module _ (σ : Solver) (o : Opening) (t : At) where
   goes-on : (h : Host) (at : ℕ → Where) (n : ℕ) (asked : Option Question) (r : Reply) (left : Run Finished) → rest o t ≡ left → Opens σ o at n left asked
       → Only (Suits σ o h at) left → Replies σ asked r
       → Only (Suits σ o h at) (rest o (withReply (t .run) (t .last) r)) × (play h (rest o (withReply (t .run) (t .last) r)) ≡ play h left)
+      × (suc (questions h (rest o (withReply (t .run) (t .last) r))) ≡ questions h left)
   unfolding Only
   goes-on h at n asked r (done c) e s w q = not-none (sym (s .hears))
   goes-on h at n asked r (refuse m i) e s w q = not-none (sym (s .hears))
   goes-on h at n asked r (ask p v k) e s w q =
       let next : rest o (withReply (t .run) (t .last) r) ≡ k r = rest-more o (t .run) (t .last) r p v k e in
       let same : r ≡ h p v = subst (λ (x : Option Question). Replies σ x r) (s .asks) q ∙ sym (w .0 n p) in
-      (subst (Only (Suits σ o h at)) (sym next) (w .1 r), ap (play h) next ∙ ap (λ (x : Reply). play h (k x)) same)
+      (subst (Only (Suits σ o h at)) (sym next) (w .1 r), ap (play h) next ∙ ap (λ (x : Reply). play h (k x)) same, ap (λ (x : Run Finished). suc (questions h x)) next ∙ ap (λ (x : Reply). suc (questions h (k x))) same)
 
 module _ (σ : Solver) (o : Opening) (t : At) (u : Trail) (a : Agrees σ o t u) where
   abbrev list : List Requested
   list = u .book .list
 
-  stands-at : (at : Where) → u .book .at ≡ at → Stands σ o (keptBy (t .last)) (rest o t) list (u .asked) at
-  stands-at at e = subst (Stands σ o (keptBy (t .last)) (rest o t) list (u .asked)) e (a .is)
+  stands-at : (at : Where) → u .book .at ≡ at → Stands σ o (keptBy (t .last)) (rest o t) list (u .asked) (u .replies) at
+  stands-at at e = subst (Stands σ o (keptBy (t .last)) (rest o t) list (u .asked) (u .replies)) e (a .is)
 
   -- a reply to the run
   run-replied : (n : ℕ) → u .book .at ≡ inRun n → (r : Reply) → Replies σ (u .asked) r
-      → RunGoes σ o (keptBy (withReply (t .run) (t .last) r .last)) (rest o (withReply (t .run) (t .last) r)) list
+      → RunGoes σ o (keptBy (withReply (t .run) (t .last) r .last)) (rest o (withReply (t .run) (t .last) r)) list (suc (u .replies))
   run-replied n e r q =
       let s = stands-at (inRun n) e in
       let g = goes-on σ o t (hostOf σ o) inRun n (u .asked) r (rest o t) refl (s .1) (s .0 .suits) q in
-      record { none-kept = kept-more o (t .run) (t .last) r ∙ s .0 .none-kept; listed = s .0 .listed; suits = g .0; plays = g .1 ∙ s .0 .plays }
+      record { none-kept = kept-more o (t .run) (t .last) r ∙ s .0 .none-kept; listed = s .0 .listed; suits = g .0; plays = g .1 ∙ s .0 .plays; counted = omega (arith, s .0 .counted, g .2) }
 
   -- a reply to an edit
   edit-replied : (n : ℕ) (e : Edit) → u .book .at ≡ inEdit n e → (r : Reply) → Replies σ (u .asked) r
-      → EditGoes σ o e (keptBy (withReply (t .run) (t .last) r .last)) (rest o (withReply (t .run) (t .last) r)) list
+      → EditGoes σ o e (keptBy (withReply (t .run) (t .last) r .last)) (rest o (withReply (t .run) (t .last) r)) list (suc (u .replies))
   edit-replied n e i r q =
       let s = stands-at (inEdit n e) i in
       let g = goes-on σ o t (hostOf σ (withList o list)) (λ n. inEdit n e) n (u .asked) r (rest o t) refl (s .1) (s .0 .suits) q in
@@ -286,6 +315,7 @@ module _ (σ : Solver) (o : Opening) (t : At) (u : Trail) (a : Agrees σ o t u) 
         fits = s .0 .fits;
         suits = g .0;
         plays = g .1 ∙ s .0 .plays;
+        counted = omega (arith, s .0 .counted, g .2);
       }
 
   suits-new : (e : Edit) (c : Finished) → Only (Suits σ o (hostOf σ (withList o list)) (λ n. inEdit n e)) (edit c e)
@@ -295,7 +325,7 @@ module _ (σ : Solver) (o : Opening) (t : At) (u : Trail) (a : Agrees σ o t u) 
 
   -- an edit, made where this finished run stands
   abbrev Changed : Edit → Option Finished → Type 0
-  Changed e q = EditGoes σ o e (keptBy (withEdit t q e .last)) (rest o (withEdit t q e)) list
+  Changed e q = EditGoes σ o e (keptBy (withEdit t q e .last)) (rest o (withEdit t q e)) list 0
 
   changed : (e : Edit) → ruledEdit σ o (u .book) e ≡ takes → Changed e (finishedAt o t)
   changed e = by (u .book .at) refl
@@ -305,7 +335,7 @@ module _ (σ : Solver) (o : Opening) (t : At) (u : Trail) (a : Agrees σ o t u) 
       by-outcome (ends c) f s b p =
           let is : finishedAt o t ≡ some c = s .finished ∙ rw (b, f) in
           subst (Changed e) (sym is)
-          (record { was = c; was-kept = refl; before = f; reported = b; fits = p; suits = suits-new e c; plays = edit-fresh σ o list c e f p })
+          (record { was = c; was-kept = refl; before = f; reported = b; fits = p; suits = suits-new e c; plays = edit-fresh σ o list c e f p; counted = omega arith })
       by-outcome (refuses n i) f s b p = not-both (sym (s .reported b) ∙ ap isReport f)
 
       by-report : (b : Bool) → reports σ o (o .requested) ≡ b → Rests σ o (keptBy (t .last)) (rest o t) list
@@ -324,22 +354,22 @@ module _ (σ : Solver) (o : Opening) (t : At) (u : Trail) (a : Agrees σ o t u) 
   replies-so x r e q = subst (λ (y : Taking). Comes σ y (u .asked) r) e q
 
   run-taken : (x : Call) → FromSolver σ o u x → ruled σ o (u .book) x ≡ takes → (n : ℕ) → u .book .at ≡ inRun n
-      → RunGoes σ o (keptBy (taken o t x .last)) (rest o (taken o t x)) list
+      → RunGoes σ o (keptBy (taken o t x .last)) (rest o (taken o t x)) list (repliesWith (u .replies) x)
   run-taken (reply ds ms) q e n i = run-replied n i (entries (entriesOf ds ms)) (replies-so _ _ e q)
   run-taken refusePoint q e n i = run-replied n i refused (replies-so _ _ e q)
   run-taken (change f) q e n i =
       apart (sym (ap (λ (at : Where). cond (standsBy σ o at) (cond (placed f (length list)) takes (declines 15)) (declines 14)) i) ∙ e)
 
   edit-taken : (x : Call) → FromSolver σ o u x → ruled σ o (u .book) x ≡ takes → (e : Edit) → Edits (u .book) x e
-      → EditGoes σ o e (keptBy (taken o t x .last)) (rest o (taken o t x)) list
+      → EditGoes σ o e (keptBy (taken o t x .last)) (rest o (taken o t x)) list (repliesWith (u .replies) x)
   edit-taken (reply ds ms) q e f i = edit-replied (i .0) f (i .1) (entries (entriesOf ds ms)) (replies-so _ _ e q)
   edit-taken refusePoint q e f i = edit-replied (i .0) f (i .1) refused (replies-so _ _ e q)
   edit-taken (change g) q e f i =
-      subst (λ (f : Edit). EditGoes σ o f (keptBy (taken o t (change g) .last)) (rest o (taken o t (change g))) list) i (changed g e)
+      subst (λ (f : Edit). EditGoes σ o f (keptBy (taken o t (change g) .last)) (rest o (taken o t (change g))) list 0) i (changed g e)
 
   -- a taken call leads to where this book stands
   abbrev Leads : Call → (Option ℕ → Book) → Type 0
-  Leads x b = let left = rest o (taken o t x) in StandsBy σ o (keptBy (taken o t x .last)) left (noted o (b (heard o (head left))) (head left))
+  Leads x b = let left = rest o (taken o t x) in StandsBy σ o (keptBy (taken o t x .last)) left (noted o (b (heard o (head left))) (head left) (repliesWith (u .replies) x))
 
   -- where a reply is taken, the run has a question open, or an edit has
   reply-leads : (x : Call) → FromSolver σ o u x → ruled σ o (u .book) x ≡ takes → ((n : ℕ) (e : Edit) → u .book .at ≡ inEdit n e → Edits (u .book) x e)
@@ -347,26 +377,29 @@ module _ (σ : Solver) (o : Opening) (t : At) (u : Trail) (a : Agrees σ o t u) 
   reply-leads x q e edits closed = by (u .book .at) refl
     where
       by : (at : Where) → u .book .at ≡ at → Leads x (replyHeard σ o at list)
-      by (inRun n) i = run-heard σ o _ (rest o (taken o t x)) list (run-taken x q e n i)
+      by (inRun n) i = run-heard σ o _ (rest o (taken o t x)) list _ (run-taken x q e n i)
       by idle i = apart (sym (closed i) ∙ e)
-      by (inEdit n f) i = edit-heard σ o f _ (rest o (taken o t x)) list (edit-taken x q e f (edits n f i))
+      by (inEdit n f) i = edit-heard σ o f _ (rest o (taken o t x)) list _ (edit-taken x q e f (edits n f i))
 
   leads : (x : Call) → FromSolver σ o u x → ruled σ o (u .book) x ≡ takes → Leads x (callHeard σ o (u .book) x)
   leads (reply ds ms) q e = reply-leads (reply ds ms) q e (λ n f i. (n, i)) (ap (λ (at : Where). ruledReply σ o at ds ms))
   leads refusePoint q e = reply-leads refusePoint q e (λ n f i. (n, i)) (ap (ruledRefusal σ o))
-  leads (change f) q e = edit-heard σ o f _ (rest o (taken o t (change f))) list (edit-taken (change f) q e f refl)
+  leads (change f) q e = edit-heard σ o f _ (rest o (taken o t (change f))) list _ (edit-taken (change f) q e f refl)
 
 -- ---- the theorems
 
 pub agrees-first : (σ : Solver) (o : Opening) → Agrees σ o first (begun o (head (whole o)))
 agrees-first σ o = record {
-  is = subst (λ (b : Book). StandsBy σ o none (whole o) (noted o b (head (whole o)))) (sym (opened-so σ o (heard o (head (whole o)))))
-      (run-heard σ o none (whole o) (o .requested) (first-goes σ o));
+  is = subst (λ (b : Book). StandsBy σ o none (whole o) (noted o b (head (whole o)) 0)) (sym (opened-so σ o (heard o (head (whole o)))))
+      (run-heard σ o none (whole o) (o .requested) 0 (first-goes σ o));
 }
 
 -- the report that stands by the definition stands by the book
 pub stands-by : (σ : Solver) (o : Opening) (t : At) (u : Trail) → Agrees σ o t u → reportBy (finishedAt o t) ≡ standing σ o (u .book)
-stands-by σ o t u a = reads-so σ o (keptBy (t .last)) (rest o t) (u .book .list) (u .asked) (u .book .at) (a .is)
+stands-by σ o t u a = reads-so σ o (keptBy (t .last)) (rest o t) (u .book .list) (u .asked) (u .replies) (u .book .at) (a .is)
+
+pub opened-stops : (σ : Solver) (o : Opening) → (heard o (head (whole o)) ≡ none) ↔ (0 ≡ questions (hostOf σ o) (whole o))
+opened-stops σ o = stops-so σ o (hostOf σ o) (whole o) 0 _ (first-goes σ o .counted)
 
 pub agrees-opened : (σ : Solver) (o : Opening)
     → (heard o (head (whole o)) ≡ none → Ends (fresh σ o (o .requested)) none (head (whole o)) (λ p. reportBy (finishedAt o first) ≡ p))
@@ -375,9 +408,9 @@ agrees-opened σ o =
     (ends-so σ o (hostOf σ o) none (whole o) (fresh σ o (o .requested)) none (first-goes σ o .plays) refl, stands-by σ o first (begun o (head (whole o))) (agrees-first σ o))
 
 pub agrees-ruled : (σ : Solver) (o : Opening) (t : At) (u : Trail) → Agrees σ o t u → (x : Call) → ruled σ o (u .book) x ≡ stance o t x
-agrees-ruled σ o t u a (reply ds ms) = reply-so σ o ds ms (keptBy (t .last)) (rest o t) (u .book .list) (u .asked) (u .book .at) (a .is)
-agrees-ruled σ o t u a refusePoint = refusal-so σ o (keptBy (t .last)) (rest o t) (u .book .list) (u .asked) (u .book .at) (a .is)
-agrees-ruled σ o t u a (change e) = edit-so σ o e (keptBy (t .last)) (rest o t) (u .book .list) (u .asked) (u .book .at) (a .is)
+agrees-ruled σ o t u a (reply ds ms) = reply-so σ o ds ms (keptBy (t .last)) (rest o t) (u .book .list) (u .asked) (u .replies) (u .book .at) (a .is)
+agrees-ruled σ o t u a refusePoint = refusal-so σ o (keptBy (t .last)) (rest o t) (u .book .list) (u .asked) (u .replies) (u .book .at) (a .is)
+agrees-ruled σ o t u a (change e) = edit-so σ o e (keptBy (t .last)) (rest o t) (u .book .list) (u .asked) (u .replies) (u .book .at) (a .is)
 
 module _ (σ : Solver) (o : Opening) (t : At) (u : Trail) (a : Agrees σ o t u) (x : Call) (q : FromSolver σ o u x) where
   abbrev placeBy : Taking → At
@@ -387,7 +420,7 @@ module _ (σ : Solver) (o : Opening) (t : At) (u : Trail) (a : Agrees σ o t u) 
   saidTo y = due y (rest o (placeBy y))
 
   abbrev trailBy : Taking → Said → Trail
-  trailBy y said = unlessDeclined y u (noted o (unlessDeclined y (u .book) (callHeard σ o (u .book) x (heard o said))) said)
+  trailBy y said = unlessDeclined y u (noted o (unlessDeclined y (u .book) (callHeard σ o (u .book) x (heard o said))) said (repliesWith (u .replies) x))
 
   next : Agrees σ o (after o t x) (followed σ o u x (dueTo o t x))
   next = subst (λ (y : Taking). Agrees σ o (placeBy (stance o t x)) (trailBy y (saidTo (stance o t x)))) (sym (agrees-ruled σ o t u a x)) (by (stance o t x) refl)
@@ -408,7 +441,10 @@ module _ (σ : Solver) (o : Opening) (t : At) (u : Trail) (a : Agrees σ o t u) 
   abbrev EndsSo : Outcome Finished → Option Report → At → Said → Type 0
   EndsSo f before s said = heard o said ≡ none → Ends f before said (λ p. reportBy (finishedAt o s) ≡ p)
 
-  holds : Holds σ o (u .book) x (dueTo o t x) (λ p. reportBy (finishedAt o (after o t x)) ≡ p)
+  abbrev StopsSo : ℕ → At → Said → Type 0
+  StopsSo all s said = (heard o said ≡ none) ↔ (repliesWith (u .replies) x ≡ all)
+
+  holds : Holds σ o u x (dueTo o t x) (λ p. reportBy (finishedAt o (after o t x)) ≡ p)
   holds =
       let list = u .book .list in
       let kept = keptBy (taken o t x .last) in
@@ -416,6 +452,14 @@ module _ (σ : Solver) (o : Opening) (t : At) (u : Trail) (a : Agrees σ o t u) 
       let then = followed σ o u x (dueTo o t x) in
       let b : booked σ o (u .book) x (heard o (dueTo o t x)) ≡ then .book = booked-so (ruled σ o (u .book) x) (dueTo o t x) in
       record {
+        run-stops = λ n i e.
+            let g = run-taken σ o t u a x q e n i in
+            as-taken (StopsSo (questions (hostOf σ o) (whole o))) e (stops-so σ o (hostOf σ o) left _ _ (g .counted));
+        edit-stops = λ f c i e w.
+            let g = edit-taken σ o t u a x q e f i in
+            let host = hostOf σ (withList o list) in
+            let same : g .was ≡ c = same-end (sym (g .before) ∙ w) in
+            as-taken (StopsSo (questions host (edit c f))) e (stops-so σ o host left _ _ (g .counted ∙ ap (λ (b : Finished). questions host (edit b f)) same));
         run-ends = λ n i e.
             let g = run-taken σ o t u a x q e n i in
             as-taken (EndsSo (fresh σ o (o .requested)) none) e (ends-so σ o (hostOf σ o) kept left (fresh σ o (o .requested)) none (g .plays) (ap reportBy (g .none-kept)));
@@ -424,12 +468,11 @@ module _ (σ : Solver) (o : Opening) (t : At) (u : Trail) (a : Agrees σ o t u) 
             let was = reportFrom none (fresh σ o list) in
             as-taken (EndsSo (fresh σ o (edited f list)) was) e
             (ends-so σ o (hostOf σ (withList o list)) kept left (fresh σ o (edited f list)) was (g .plays) (ap reportBy (g .was-kept) ∙ ap (reportFrom none) (sym (g .before))));
-        only-band = λ f i e c d v w. only-band σ o list c d f v (edit-taken σ o t u a x q e f i .fits) w;
         stands = stands-by σ o (after o t x) then next ∙ ap (standing σ o) (sym b);
         reported = λ h.
             let is : standsBy σ o (then .book .at) ≡ true = ap (λ (c : Book). standsBy σ o (c .at)) (sym b) ∙ h in
             ap (λ (c : Book). reports σ o (c .list)) b
-            ∙ reported-so σ o (keptBy (after o t x .last)) (rest o (after o t x)) (then .book .list) (then .asked) (then .book .at) (next .is) is;
+            ∙ reported-so σ o (keptBy (after o t x .last)) (rest o (after o t x)) (then .book .list) (then .asked) (then .replies) (then .book .at) (next .is) is;
       }
 
 pub agrees-next : (σ : Solver) (o : Opening) (t : At) (u : Trail) → Agrees σ o t u → (x : Call) → FromSolver σ o u x
@@ -437,5 +480,13 @@ pub agrees-next : (σ : Solver) (o : Opening) (t : At) (u : Trail) → Agrees σ
 agrees-next σ o t u a x q = next σ o t u a x q
 
 pub agrees-holds : (σ : Solver) (o : Opening) (t : At) (u : Trail) → Agrees σ o t u → (x : Call) → FromSolver σ o u x
-    → Holds σ o (u .book) x (dueTo o t x) (λ p. reportBy (finishedAt o (after o t x)) ≡ p)
+    → Holds σ o u x (dueTo o t x) (λ p. reportBy (finishedAt o (after o t x)) ≡ p)
 agrees-holds σ o t u a x q = holds σ o t u a x q
+
+-- where an edit ends by the book's rules, what is new in the report that stands
+pub agrees-changes : (σ : Solver) (o : Opening) (t : At) (u : Trail) → Agrees σ o t u → (x : Call) → FromSolver σ o u x
+    → (e : Edit) → Edits (u .book) x e → ruled σ o (u .book) x ≡ takes → heard o (dueTo o t x) ≡ none
+    → Ended σ o e (keptBy (after o t x .last)) (reportBy (finishedAt o (after o t x))) (dueTo o t x)
+agrees-changes σ o t u a x q e i r =
+    as-taken σ o t u a x q (λ s said. heard o said ≡ none → Ended σ o e (keptBy (s .last)) (reportBy (finishedAt o s)) said) r
+    (changes-so σ o e (keptBy (taken o t x .last)) (rest o (taken o t x)) (u .book .list) _ (edit-taken σ o t u a x q r e i))

@@ -4,6 +4,7 @@ use mathlib.Core.Path.{_≡_, refl, sym, ap, _∙_, subst}
 use mathlib.Core.Bool.{Bool, true, false, cond}
 use mathlib.Core.List.{List, [], _∷_, _++_, map}
 use mathlib.Core.Option.{Option, none, some}
+use mathlib.Core.Logic.{_↔_}
 use native.Mathlib.Omega.{arith}
 use borrow.Author.Tests.{lt-ltb}
 use lib.Dec.{ltb}
@@ -11,29 +12,30 @@ use lib.ListN.{length}
 use lib.Ieee.{Float}
 use Rattle.definition.specs.Request.{Opening}
 use Rattle.definition.specs.Run.{Run, done, refuse, ask, bind, Reply, refused, entries, Which, shots, distances, new}
+use Rattle.definition.specs.Host.{questions}
 use Rattle.definition.specs.Likelihood as likelihood
 use Rattle.definition.specs.Fit as fit
 use Rattle.definition.specs.Summary.{Finished, Report, reportOf}
 use Rattle.definition.specs.Whole.{Edit, putIn, takeOut, exchange, placed, edit, whole, run, checkedMeasured, checkedRequested}
 use Rattle.definition.specs.Laws.{put}
 use Rattle.definition.specs.declared.Point.{Point}
-use Rattle.definition.proofs.Questions.{count}
+use Rattle.definition.proofs.Questions.{count, count-of-edit}
 use Rattle.fitting.proofs.Laws.{bind-assoc}
-use Rattle.fresh.specs.Solver.{Solver, fresh}
+use Rattle.fresh.specs.Solver.{Solver, hostOf, fresh}
 use Rattle.likelihood.specs.Arrays.{entriesOf}
-use Rattle.session.specs.Meaning.{State, asking, standing, over, Said, question, report, refusal, said, head, ofShots, moreOf, counted, Sizes, sizesFor, wants, rightLength, either}
+use Rattle.session.specs.Meaning.{State, asking, standing, over, Said, question, report, refusal, said, head, Kind, ofShots, moreOf, counted, Sizes, sizesFor, wants, rightLength, either}
 use Rattle.session.specs.Meaning as meaning
 use Rattle.session.specs.Reading.{reportIn, Shows, placeIn, baselineResults}
 use Rattle.editing.specs.Meaning.{state, Sized, Stands, Declines, sizes, entriesTaken, refusalTaken, editTaken, Opened, Replied, PointRefused, Edited}
 use Rattle.editing.specs.declared.Session.{Session}
 use Rattle.editing.specs.declared.Answer.{Answer}
-use Rattle.demands.specs.Calls.{Call, reply, refusePoint, change, resume, Editing, At, first, rest, keptBy, finishedBy, finishedAt, reportBy, Taking, declines, takes, takingReply, takingRefusal, takingEdit, stance, withReply, withEdit, taken, unlessDeclined, after, due, dueTo}
-use Rattle.demands.specs.Book.{heard, opened, ruled, Ends, standing as standsWith, Holds, Trail, begun, followed, FromSolver}
+use Rattle.demands.specs.Calls.{Call, reply, refusePoint, change, resume, Editing, At, first, restBy, rest, keptBy, finishedBy, finishedAt, reportBy, Taking, declines, takes, takingReply, takingRefusal, takingEdit, stance, withReply, withEdit, taken, unlessDeclined, after, due, dueTo}
+use Rattle.demands.specs.Book.{heard, opened, ruled, Ends, Edits, standing as standsWith, Holds, Trail, begun, followed, FromSolver}
 use Rattle.demands.specs.Demands as stated
-use Rattle.demands.specs.Demands.{Made, Meets, Chained, Throughout, ReadsAs, checked, OpensProperly, countedSaid, EndsProperly, Demand1, OpensAsDefined, AsDefined, Demand2, nextTrail, AllFrom, OpensFresh, EndsFresh, Along, Demand3}
+use Rattle.demands.specs.Demands.{Made, Meets, Chained, Throughout, ReadsAs, checked, OpensProperly, countedSaid, mostOf, EndsProperly, Demand1, OpensAsDefined, AsDefined, Demand2, Changes, editedFrom, nextTrail, AllFrom, OpensFresh, EndsFresh, beforeEdit, Along, Demand3}
 use Rattle.demands.specs.Example as example
 use Rattle.demands.proofs.Questions.{Only, only-edit}
-use Rattle.demands.proofs.Book.{resume-more, rest-more, kept-more, Agrees, agrees-first, agrees-ruled, agrees-next, agrees-holds, agrees-opened}
+use Rattle.demands.proofs.Book.{resume-more, rest-more, kept-more, Agrees, agrees-first, agrees-ruled, agrees-next, agrees-holds, agrees-changes, agrees-opened, opened-stops}
 
 -- ---- the count
 
@@ -75,6 +77,33 @@ said-plus : (n : ℕ) (t : Run Finished) → plus n t ≡ countedSaid none n (he
 said-plus n (done c) = refl
 said-plus n (refuse m i) = refl
 said-plus n (ask p w k) = refl
+
+-- ---- an edit's questions
+
+-- where a question is open, one was put before each reply
+asked-after : (t : Run Finished) (rs : List Reply) (p : Point) (w : Which) (k : Reply → Run Finished) → resume t rs ≡ ask p w k → put t rs ≡ suc (length rs)
+asked-after (done c) [] p w k e = cc
+asked-after (refuse n i) [] p w k e = cc
+asked-after (ask p′ w′ k′) [] p w k e = refl
+asked-after (done c) (r ∷ rs) p w k e = cc
+asked-after (refuse n i) (r ∷ rs) p w k e = cc
+asked-after (ask p′ w′ k′) (r ∷ rs) p w k e = ap suc (asked-after (k′ r) rs p w k e)
+
+few-replies : (c : Finished) (e : Edit) (rs : List Reply) (p : Point) (w : Which) (k : Reply → Run Finished) → resume (edit c e) rs ≡ ask p w k → length rs < mostOf e
+unfolding edit
+few-replies c (putIn i d) rs p w k e = omega (arith, count-of-edit c (putIn i d) rs, asked-after (edit c (putIn i d)) rs p w k e)
+few-replies c (takeOut i) [] p w k e = let z : _≡_ {A = ℕ} 0 1 = cc in absurd (omega arith)
+few-replies c (takeOut i) (r ∷ rs) p w k e = let z : _≡_ {A = ℕ} 0 1 = cc in absurd (omega arith)
+few-replies c (exchange i d) rs p w k e = omega (arith, count-of-edit c (exchange i d) rs, asked-after (edit c (exchange i d)) rs p w k e)
+
+edit-asks : (o : Opening) (t : At) (x : Editing) → t .last ≡ some x → (mv bc : Float) (list : Kind) → head (rest o t) ≡ question mv bc list → length (x .replies) < mostOf (x .made)
+edit-asks o t x l mv bc list q =
+    by (resume (edit (x .of) (x .made)) (x .replies)) refl (subst (λ (y : Option Editing). head (restBy o (t .run) y) ≡ question mv bc list) l q)
+  where
+    by : (u : Run Finished) → resume (edit (x .of) (x .made)) (x .replies) ≡ u → head u ≡ question mv bc list → length (x .replies) < mostOf (x .made)
+    by (done c) e h = let z : _≡_ {A = ℕ} 0 1 = cc in absurd (omega arith)
+    by (refuse n i) e h = let z : _≡_ {A = ℕ} 0 1 = cc in absurd (omega arith)
+    by (ask p w k) e h = few-replies (x .of) (x .made) (x .replies) p w k e
 
 -- ---- the report
 
@@ -138,6 +167,9 @@ ofOr d (some z) = z .of
 apart : {n : ℕ} → takes ≡ declines n → ⊥
 apart q = let z : _≡_ {A = ℕ} 0 1 = cc in absurd (omega arith)
 
+no-question : {n i : ℕ} {mv bc : Float} {list : Kind} {A : Type 0} → refusal n i ≡ question mv bc list → A
+no-question q = let z : _≡_ {A = ℕ} 0 1 = cc in absurd (omega arith)
+
 numbers : {m n : ℕ} → declines m ≡ declines n → m ≡ n
 numbers q = cc
 
@@ -185,6 +217,7 @@ module _ (o : Opening) where
             declined = λ m f. (number ∙ ap (λ (x : ℕ). refusal x 0) (numbers (sym e ∙ f)), same);
             counted = ap stated.count same ∙ sym (ap (countedSaid (after o t (c .call) .last) (stated.count s)) number ∙ refused-counts (after o t (c .call) .last) (stated.count s) n);
             limited = limited (after o t (c .call) .run) (stated.count (c .answer .session)) (next .counts);
+            edit-limited = λ x el mv bc list q. no-question (sym number ∙ q);
             edits = λ x st ex el. edits-of t s h (c .call) x st ex el;
             restored = λ x m i el er. restores (after o t (c .call)) (c .answer .session) next x m i el er;
           };
@@ -210,6 +243,7 @@ module _ (o : Opening) where
             declined = λ n f. absurd (apart (sym e ∙ f));
             counted = counts ∙ ap (λ (u : At). countedSaid (u .last) (stated.count s) (said (c .answer .step))) (sym goes);
             limited = limited (after o t (c .call) .run) (stated.count (c .answer .session)) (next .counts);
+            edit-limited = λ x el mv bc list q. edit-asks o (after o t (c .call)) x el mv bc list (ap (λ (u : At). head (rest o u)) goes ∙ sym says ∙ q);
             edits = λ x st ex el. edits-of t s h (c .call) x st ex el;
             restored = λ x m i el er. restores (after o t (c .call)) (c .answer .session) next x m i el er;
           };
@@ -397,31 +431,77 @@ module _ (σ : Solver) (o : Opening) where
   reads-end : (f : _) (before : Option Report) (x y : Said) (s : Session) (r : Option Report) → y ≡ x → ReadsAs s r → Ends f before x (λ p. r ≡ p) → Ends f before y (ReadsAs s)
   reads-end f before x y s r e d h = record { says = e ∙ h .says; reads = subst (ReadsAs s) (h .reads) d }
 
-  holds-said : (u : Trail) (c : Made) (x : Said) (r : Option Report) → said (c .answer .step) ≡ x → ReadsAs (c .answer .session) r → Holds σ o (u .book) (c .call) x (λ p. r ≡ p)
-      → Holds σ o (u .book) (c .call) (said (c .answer .step)) (ReadsAs (c .answer .session))
+  holds-said : (u : Trail) (c : Made) (x : Said) (r : Option Report) → said (c .answer .step) ≡ x → ReadsAs (c .answer .session) r → Holds σ o u (c .call) x (λ p. r ≡ p)
+      → Holds σ o u (c .call) (said (c .answer .step)) (ReadsAs (c .answer .session))
   holds-said u c x r e d h =
-      let b = u .book in
-      let Q : Said → Type 0 = λ y. Holds σ o b (c .call) y (ReadsAs (c .answer .session)) in
+      let Q : Said → Type 0 = λ y. Holds σ o u (c .call) y (ReadsAs (c .answer .session)) in
       subst Q (sym e)
       (record {
+        run-stops = h .run-stops;
+        edit-stops = h .edit-stops;
         run-ends = λ n at ru he. reads-end _ none x x (c .answer .session) r refl d (h .run-ends n at ru he);
         edit-ends = λ y ed ru he. reads-end _ _ x x (c .answer .session) r refl d (h .edit-ends y ed ru he);
-        only-band = h .only-band;
         stands = subst (ReadsAs (c .answer .session)) (h .stands) d;
         reported = h .reported;
       })
 
-  walk-3 : (t : At) (u : Trail) (a : Answer) (cs : List Made) → Inv o t (a .session) → Agrees σ o t u → Chained a cs → AllFrom σ o u cs → Along σ o u (a .session) cs
-  walk-3 t u a [] h g m f = tt
-  walk-3 t u a (c ∷ cs) h g m f =
+  -- the session that the last edit was made on reads as the finished run that the edit is of
+  abbrev Before : At → Session → Type 0
+  Before t old = (x : Editing) → t .last ≡ some x → ReadsAs old (some (reportOf (x .of)))
+
+  reply-before : (rs : List Reply) (last : Option Editing) (r : Reply) (old : Session) → Before (record { run = rs; last = last }) old → Before (withReply rs last r) old
+  reply-before rs none r old b x e = let z : _≡_ {A = ℕ} 0 1 = cc in absurd (omega arith)
+  reply-before rs (some y) r old b x e =
+      let same : y .of ≡ x .of = ap (λ (z : Option Editing). ofOr (y .of) z) e in
+      subst (λ (c : Finished). ReadsAs old (some (reportOf c))) same (b y refl)
+
+  -- an edit is made on the session as it is
+  edit-before : (t : At) (s : Session) → Inv o t s → (f : Edit) (q : Option Finished) → finishedAt o t ≡ q → takingEdit q f ≡ takes → Before (withEdit t q f) s
+  edit-before t s h f none e st = absurd (apart (sym st))
+  edit-before t s h f (some c) e st = λ x l.
+      let same : c ≡ x .of = ap (λ (z : Option Editing). ofOr c z) l in
+      subst (λ (d : Finished). ReadsAs s (some (reportOf d))) same (subst (λ (z : Option Finished). ReadsAs s (reportBy z)) e (inv-reads o t s h))
+
+  taken-before : (t : At) (old s : Session) → Inv o t s → Before t old → (x : Call) → stance o t x ≡ takes → Before (taken o t x) (editedFrom old s x)
+  taken-before t old s h b (reply ds ms) e = reply-before (t .run) (t .last) _ old b
+  taken-before t old s h b refusePoint e = reply-before (t .run) (t .last) _ old b
+  taken-before t old s h b (change f) e = edit-before t s h f (finishedAt o t) refl e
+
+  next-before : (t : At) (u : Trail) (old s : Session) (x : Call) → Inv o t s → Agrees σ o t u → Before t old → Before (after o t x) (beforeEdit σ o u old s x)
+  next-before t u old s x h g b =
+      subst (λ (z : Taking). Before (after o t x) (unlessDeclined z old (editedFrom old s x))) (sym (agrees-ruled σ o t u g x)) (by (stance o t x) refl)
+    where
+      by : (y : Taking) → stance o t x ≡ y → Before (unlessDeclined y t (taken o t x)) (unlessDeclined y old (editedFrom old s x))
+      by (declines n) e = b
+      by takes e = taken-before t old s h b x e
+
+  kept-before : (s : Session) (was : Finished) (l : Option Editing) → ((x : Editing) → l ≡ some x → ReadsAs s (some (reportOf (x .of)))) → keptBy l ≡ some was → ReadsAs s (some (reportOf was))
+  kept-before s was none b e = let z : _≡_ {A = ℕ} 0 1 = cc in absurd (omega arith)
+  kept-before s was (some x) b e = let same : x .of ≡ was = cc in subst (λ (c : Finished). ReadsAs s (some (reportOf c))) same (b x refl)
+
+  walk-3 : (t : At) (u : Trail) (old : Session) (a : Answer) (cs : List Made) → Inv o t (a .session) → Agrees σ o t u → Before t old → Chained a cs → AllFrom σ o u cs
+      → Along σ o u old (a .session) cs
+  walk-3 t u old a [] h g b m f = tt
+  walk-3 t u old a (c ∷ cs) h g b m f =
       let k = step o t (a .session) h (c .call) (c .answer) (m .0) in
-      let says = k .defined .says in (
+      let says = k .defined .says in
+      let now = next-before t u old (a .session) (c .call) h g b in (
         record {
           declined = λ n e. k .proper .declined n (sym (agrees-ruled σ o t u g (c .call)) ∙ e);
           holds = holds-said u c (dueTo o t (c .call)) (reportBy (finishedAt o (after o t (c .call)))) says (k .defined .reads) (agrees-holds σ o t u g (c .call) (f .0));
+          changes = λ e i r z.
+              let x = agrees-changes σ o t u g (c .call) (f .0) e i r (ap (heard o) (sym says) ∙ z) in
+              record {
+                old = reportOf (x .0);
+                new = x .1;
+                reads-old = kept-before (beforeEdit σ o u old (a .session) (c .call)) (x .0) (after o t (c .call) .last) now (x .2);
+                reads-new = subst (ReadsAs (c .answer .session)) (x .3) (k .defined .reads);
+                made = λ y. x .4 (sym says ∙ y);
+                refused = λ n j y. x .5 n j (sym says ∙ y);
+              };
         },
-        walk-3 (after o t (c .call)) (nextTrail σ o u c) (c .answer) cs (k .inv)
-            (subst (λ (x : Said). Agrees σ o (after o t (c .call)) (followed σ o u (c .call) x)) (sym says) (agrees-next σ o t u g (c .call) (f .0))) (m .1) (f .1),
+        walk-3 (after o t (c .call)) (nextTrail σ o u c) (beforeEdit σ o u old (a .session) (c .call)) (c .answer) cs (k .inv)
+            (subst (λ (x : Said). Agrees σ o (after o t (c .call)) (followed σ o u (c .call) x)) (sym says) (agrees-next σ o t u g (c .call) (f .0))) now (m .1) (f .1),
       )
 
 pub demand-3 : Demand3
@@ -430,10 +510,12 @@ demand-3 σ o a m cs ch f =
     let opens = agrees-opened σ o in
     let reads = inv-reads o first (a .session) (begins o a m) in (
       record {
+        stops = subst (λ (x : Said). (heard o x ≡ none) ↔ (0 ≡ questions (hostOf σ o) (whole o))) (sym says) (opened-stops σ o);
         ends = λ e. reads-end σ o _ none (head (whole o)) (said (a .step)) (a .session) _ says reads (opens .0 (ap (heard o) (sym says) ∙ e));
         stands = subst (ReadsAs (a .session)) (opens .1 ∙ ap (λ (x : Said). standsWith σ o (opened o (heard o x))) (sym says)) reads;
       },
-      walk-3 σ o first (begun o (said (a .step))) a cs (begins o a m) (subst (λ (x : Said). Agrees σ o first (begun o x)) (sym says) (agrees-first σ o)) ch f,
+      walk-3 σ o first (begun o (said (a .step))) (a .session) a cs (begins o a m) (subst (λ (x : Said). Agrees σ o first (begun o x)) (sym says) (agrees-first σ o))
+          (λ x e. let z : _≡_ {A = ℕ} 0 1 = cc in absurd (omega arith)) ch f,
     )
 
 -- ---- a list of calls that is known: what is due to it is said

@@ -1,19 +1,20 @@
 -- The book of demand 3. It is fed the opening, the calls and, of each answer, only whether a question came and with how many distances.
-use Prim.Native.Nat.{ℕ}
+use Prim.Native.Nat.{ℕ, suc}
 use mathlib.Core.Path.{_≡_}
 use mathlib.Core.Bool.{Bool, true, false, cond}
 use mathlib.Core.List.{List, [], _∷_}
 use mathlib.Core.Option.{Option, none, some}
+use mathlib.Core.Logic.{_↔_}
 use lib.ListN.{length}
 use lib.Ieee.{Float}
 use Rattle.definition.specs.Request.{Requested, Opening}
 use Rattle.definition.specs.Run.{Reply, refused, entries}
-use Rattle.definition.specs.Host.{Outcome, ends, refuses}
+use Rattle.definition.specs.Host.{Outcome, ends, refuses, questions}
 use Rattle.definition.specs.Summary.{Finished, Report, reportOf, rangesOf}
-use Rattle.definition.specs.Whole.{Edit, putIn, takeOut, exchange, edited, placed}
+use Rattle.definition.specs.Whole.{Edit, putIn, takeOut, exchange, edited, placed, edit, whole}
 use Rattle.definition.specs.declared.Point.{Point}
 use Rattle.likelihood.specs.Arrays.{entriesOf}
-use Rattle.fresh.specs.Solver.{Solver, replyAt, distancesOf, fresh, BandAlone}
+use Rattle.fresh.specs.Solver.{Solver, replyAt, distancesOf, hostOf, withList, fresh}
 use Rattle.session.specs.Meaning.{Said, question, report, refusal, Kind, ofShots, ofDistances, ofNew, rightLength}
 use Rattle.demands.specs.Calls.{Call, reply, refusePoint, change, Taking, declines, takes, unlessDeclined}
 
@@ -134,18 +135,25 @@ questionIn o at (question mv bc list) = some (record { point = record { mv = mv;
 questionIn o at report = none
 questionIn o at (refusal n i) = none
 
--- the book, and the question that is open
+-- the book, the question that is open, and how many replies the run, or the last edit, has taken
 pub record Trail : Type 0 where
   pub book : Book
   pub asked : Option Question
+  pub replies : ℕ
+
+-- the replies taken, with this call: an edit begins with none
+abbrev pub repliesWith : ℕ → Call → ℕ
+repliesWith n (reply ds ms) = suc n
+repliesWith n refusePoint = suc n
+repliesWith n (change e) = 0
 
 abbrev pub begun : Opening → Said → Trail
-begun o said = let b = opened o (heard o said) in record { book = b; asked = questionIn o (b .at) said }
+begun o said = let b = opened o (heard o said) in record { book = b; asked = questionIn o (b .at) said; replies = 0 }
 
 abbrev pub followed : Solver → Opening → Trail → Call → Said → Trail
 followed σ o t x said =
     let b = booked σ o (t .book) x (heard o said) in
-    unlessDeclined (ruled σ o (t .book) x) t (record { book = b; asked = questionIn o (b .at) said })
+    unlessDeclined (ruled σ o (t .book) x) t (record { book = b; asked = questionIn o (b .at) said; replies = repliesWith (t .replies) x })
 
 -- a reply that is taken comes from the solver: it is what the solver replies to the open question
 abbrev pub Replies : Solver → Option Question → Reply → Type 0
@@ -189,15 +197,19 @@ module _ (σ : Solver) (o : Opening) where
   abbrev pub standing : Book → Option Report
   standing b = cond (standsBy σ o (b .at)) (reportFrom none (fresh σ o (b .list))) none
 
-  -- where a call found this book, this was said to it, and this is what is read then
-  pub record Holds (b : Book) (x : Call) (said : Said) (Reads : Option Report → Type 0) : Type 0 where
+  -- where a call found this trail, this was said to it, and this is what is read then
+  pub record Holds (u : Trail) (x : Call) (said : Said) (Reads : Option Report → Type 0) : Type 0 where
+    -- the run does end: with the reply to the last question that the definition's play of it puts, and with no other
+    pub run-stops : (n : ℕ) → u .book .at ≡ inRun n → ruled σ o (u .book) x ≡ takes
+        → (heard o said ≡ none) ↔ (repliesWith (u .replies) x ≡ questions (hostOf σ o) (whole o))
+    -- so does each edit: an edit that asks nothing with the call itself
+    pub edit-stops : (e : Edit) (c : Finished) → Edits (u .book) x e → ruled σ o (u .book) x ≡ takes → fresh σ o (u .book .list) ≡ ends c
+        → (heard o said ≡ none) ↔ (repliesWith (u .replies) x ≡ questions (hostOf σ (withList o (u .book .list))) (edit c e))
     -- the run ends in the fresh outcome of the opening's list
-    pub run-ends : (n : ℕ) → b .at ≡ inRun n → ruled σ o b x ≡ takes → heard o said ≡ none → Ends (fresh σ o (o .requested)) none said Reads
+    pub run-ends : (n : ℕ) → u .book .at ≡ inRun n → ruled σ o (u .book) x ≡ takes → heard o said ≡ none → Ends (fresh σ o (o .requested)) none said Reads
     -- an edit ends in the fresh outcome of the edited list, and a refused one restores the report of the list as it was
-    pub edit-ends : (e : Edit) → Edits b x e → ruled σ o b x ≡ takes → heard o said ≡ none → Ends (fresh σ o (edited e (b .list))) (reportFrom none (fresh σ o (b .list))) said Reads
-    -- from the report before the edit to the one after, only the band concerned and the outside-domain warning change
-    pub only-band : (e : Edit) → Edits b x e → ruled σ o b x ≡ takes → (c d : Finished) → fresh σ o (b .list) ≡ ends c → fresh σ o (edited e (b .list)) ≡ ends d
-        → BandAlone e (reportOf c) (reportOf d)
+    pub edit-ends : (e : Edit) → Edits (u .book) x e → ruled σ o (u .book) x ≡ takes → heard o said ≡ none
+        → Ends (fresh σ o (edited e (u .book .list))) (reportFrom none (fresh σ o (u .book .list))) said Reads
     -- a report that stands is that of a fresh run with the book's list
-    pub stands : Reads (standing (booked σ o b x (heard o said)))
-    pub reported : standsBy σ o (booked σ o b x (heard o said) .at) ≡ true → reports σ o (booked σ o b x (heard o said) .list) ≡ true
+    pub stands : Reads (standing (booked σ o (u .book) x (heard o said)))
+    pub reported : standsBy σ o (booked σ o (u .book) x (heard o said) .at) ≡ true → reports σ o (booked σ o (u .book) x (heard o said) .list) ≡ true

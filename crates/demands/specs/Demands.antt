@@ -1,26 +1,30 @@
 -- The three demands over any list of calls on a session just opened, declined ones included. Stated over what a host sees: the answers, and what the calls that read
 -- a session give. Theorems `demand-1`, `demand-2` and `demand-3` stand in proofs/Demands.antt.
-use Prim.Native.Nat.{ℕ, suc, _≤_}
+use Prim.Native.Nat.{ℕ, suc, _≤_, _<_}
 use mathlib.Core.Path.{_≡_}
 use mathlib.Core.List.{List, [], _∷_}
 use mathlib.Core.Option.{Option, none, some}
+use mathlib.Core.Logic.{_↔_}
+use lib.ListN.{length}
+use lib.Ieee.{Float}
 use Rattle.definition.specs.Request.{Opening}
 use Rattle.definition.specs.Run.{Run, done, refuse, bind}
+use Rattle.definition.specs.Host.{questions}
 use Rattle.definition.specs.Summary.{Report, reportOf}
-use Rattle.definition.specs.Whole.{Edit, whole, checkedMeasured, checkedRequested}
+use Rattle.definition.specs.Whole.{Edit, putIn, takeOut, exchange, whole, checkedMeasured, checkedRequested}
 use Rattle.definition.specs.Laws.{put}
-use Rattle.fresh.specs.Solver.{Solver, fresh}
+use Rattle.fresh.specs.Solver.{Solver, hostOf, fresh, BandAlone}
 use Rattle.report.specs.Places.{resultSays, bandAtSays}
 use Rattle.report.specs.declared.ResultAt.{ResultAt}
 use Rattle.report.specs.declared.BandAt.{BandAt}
-use Rattle.session.specs.Meaning.{Said, question, report, refusal, said, head, ofShots}
+use Rattle.session.specs.Meaning.{Said, question, report, refusal, said, head, Kind, ofShots}
 use Rattle.session.specs.Reading.{Shows, placeIn, baselineResults}
 use Rattle.session.specs.declared.Shown.{Shown}
 use Rattle.editing.specs.Meaning.{Opened, Replied, PointRefused, Edited, ReportRead, ResultRead, BaselineResultRead, BandRead}
 use Rattle.editing.specs.declared.Session.{Session}
 use Rattle.editing.specs.declared.Answer.{Answer}
-use Rattle.demands.specs.Calls.{Call, reply, refusePoint, change, Editing, At, first, rest, finishedAt, reportBy, declines, takes, stance, after, dueTo}
-use Rattle.demands.specs.Book.{heard, opened, ruled, Ends, standing, Holds, Trail, begun, followed, FromSolver}
+use Rattle.demands.specs.Calls.{Call, reply, refusePoint, change, Editing, At, first, rest, finishedAt, reportBy, declines, takes, stance, unlessDeclined, after, dueTo}
+use Rattle.demands.specs.Book.{heard, opened, ruled, Ends, Edits, standing, Holds, Trail, begun, followed, FromSolver}
 
 -- ---- the calls of a host
 
@@ -29,7 +33,7 @@ pub record Made : Type 0 where
   pub call : Call
   pub answer : Answer
 
--- the contract of the call, which the code is proved to meet
+-- the contract of the call, which the code is proved to meet: src/lib.rt has every call with its promise
 abbrev pub Meets : Call → Session → Answer → Type 0
 Meets (reply ds ms) s a = Replied s ds ms a
 Meets refusePoint s a = PointRefused s a
@@ -76,12 +80,21 @@ countedSaid none n report = n
 countedSaid none n (refusal m i) = n
 countedSaid (some x) n said = n
 
+-- the most questions that an edit puts: the five about a new distance, and none where one is taken out
+abbrev pub mostOf : Edit → ℕ
+mostOf (putIn i d) = 5
+mostOf (takeOut i) = 0
+mostOf (exchange i d) = 5
+
 pub record EndsProperly (o : Opening) (t : At) (s : Session) (c : Made) : Type 0 where
   -- a call that was not due gets its number and changes nothing
   pub declined : (n : ℕ) → stance o t (c .call) ≡ declines n → (said (c .answer .step) ≡ refusal n 0) × (c .answer .session ≡ s)
   -- the count rises by one exactly where the run's answer is a question, and stays within its limit, so that no run puts more questions
   pub counted : count (c .answer .session) ≡ countedSaid (after o t (c .call) .last) (count s) (said (c .answer .step))
   pub limited : count (c .answer .session) ≤ 4546
+  -- a question of an edit comes after fewer replies than it puts questions at the most: so it puts no more, and ends with the fifth reply if not before
+  pub edit-limited : (x : Editing) → after o t (c .call) .last ≡ some x → (mv bc : Float) (list : Kind) → said (c .answer .step) ≡ question mv bc list
+      → length (x .replies) < mostOf (x .made)
   -- an edit that is let through is of the report that stands, and one that ends in a refusal restores it
   pub edits : (x : Editing) → stance o t (c .call) ≡ takes → c .call ≡ change (x .made) → after o t (c .call) .last ≡ some x → ReadsAs s (some (reportOf (x .of)))
   pub restored : (x : Editing) (n i : ℕ) → after o t (c .call) .last ≡ some x → rest o (after o t (c .call)) ≡ refuse n i → ReadsAs (c .answer .session) (some (reportOf (x .of)))
@@ -109,6 +122,23 @@ Demand2 = Whatever OpensAsDefined AsDefined
 
 -- ---- demand 3: the run and each edit end as a fresh run does, whatever pointwise solver the taken replies come from
 
+-- an edit has ended, and this was said: what is read on the session that it was made on, and what is read then
+pub record Changes (e : Edit) (before : Session) (said : Said) (after : Session) : Type 0 where
+  pub old : Report
+  pub new : Report
+  pub reads-old : ReadsAs before (some old)
+  pub reads-new : ReadsAs after (some new)
+  -- only the band concerned and the outside-domain warning change
+  pub made : said ≡ report → BandAlone e old new
+  -- a refused edit changes nothing
+  pub refused : (n i : ℕ) → said ≡ refusal n i → new ≡ old
+
+-- the session that the last edit was made on
+abbrev pub editedFrom : Session → Session → Call → Session
+editedFrom old s (reply ds ms) = old
+editedFrom old s refusePoint = old
+editedFrom old s (change e) = s
+
 module _ (σ : Solver) (o : Opening) where
   -- the trail goes by the calls and what was said to them
   abbrev pub nextTrail : Trail → Made → Trail
@@ -119,23 +149,32 @@ module _ (σ : Solver) (o : Opening) where
   AllFrom u [] = Unit {0}
   AllFrom u (c ∷ cs) = FromSolver σ o u (c .call) × AllFrom (nextTrail u c) cs
 
-  -- where the opening is refused, that is its list's fresh outcome
+  -- where the opening is refused, that is its list's fresh outcome; it is refused where the definition's play puts no question
   pub record OpensFresh (a : Answer) : Type 0 where
+    pub stops : (heard o (said (a .step)) ≡ none) ↔ (0 ≡ questions (hostOf σ o) (whole o))
     pub ends : heard o (said (a .step)) ≡ none → Ends (fresh σ o (o .requested)) none (said (a .step)) (ReadsAs (a .session))
     pub stands : ReadsAs (a .session) (standing σ o (opened o (heard o (said (a .step)))))
 
-  pub record EndsFresh (u : Trail) (s : Session) (c : Made) : Type 0 where
+  pub record EndsFresh (u : Trail) (before s : Session) (c : Made) : Type 0 where
     -- where the book's rules place 8, 9, 14 and 15, they come and change nothing
     pub declined : (n : ℕ) → ruled σ o (u .book) (c .call) ≡ declines n → (said (c .answer .step) ≡ refusal n 0) × (c .answer .session ≡ s)
     -- the run's end, an edit's end, and the report that stands
-    pub holds : Holds σ o (u .book) (c .call) (said (c .answer .step)) (ReadsAs (c .answer .session))
+    pub holds : Holds σ o u (c .call) (said (c .answer .step)) (ReadsAs (c .answer .session))
+    -- from the report before an edit to the one after, only the band concerned and the outside-domain warning may change
+    pub changes : (e : Edit) → Edits (u .book) (c .call) e → ruled σ o (u .book) (c .call) ≡ takes → heard o (said (c .answer .step)) ≡ none
+        → Changes e before (said (c .answer .step)) (c .answer .session)
 
-  abbrev pub Along : Trail → Session → List Made → Type 0
-  Along u s [] = Unit {0}
-  Along u s (c ∷ cs) = EndsFresh u s c × Along (nextTrail u c) (c .answer .session) cs
+  -- the session that the last edit was made on, this call included
+  abbrev pub beforeEdit : Trail → Session → Session → Call → Session
+  beforeEdit u old s x = unlessDeclined (ruled σ o (u .book) x) old (editedFrom old s x)
+
+  abbrev pub Along : Trail → Session → Session → List Made → Type 0
+  Along u old s [] = Unit {0}
+  Along u old s (c ∷ cs) =
+      EndsFresh u (beforeEdit u old s (c .call)) s c × Along (nextTrail u c) (beforeEdit u old s (c .call)) (c .answer .session) cs
 
 -- Theorem `demand-3`.
 abbrev pub Demand3 : Type 0
 Demand3 =
     (σ : Solver) (o : Opening) (a : Answer) → Opened o a → (cs : List Made) → Chained a cs → AllFrom σ o (begun o (said (a .step))) cs
-    → OpensFresh σ o a × Along σ o (begun o (said (a .step))) (a .session) cs
+    → OpensFresh σ o a × Along σ o (begun o (said (a .step))) (a .session) (a .session) cs

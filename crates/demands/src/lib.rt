@@ -1,1 +1,96 @@
-// No code: the three demands over any list of calls of a host. Statements in specs/, proofs in proofs/.
+// Every call of a host with its whole promise: what each ensures is what the three demands assume of it (specs/Demands.antt), so that a contract
+// of `editing` which says less is refused here. Nothing is decided in this file.
+use definition::Point;
+use definition::TruingPriorsV1;
+use editing::Answer;
+use editing::Session;
+use report::BandAt;
+use report::ResultAt;
+use session::Shown;
+ghost use mathlib.Core.Path.{_≡_};
+ghost use Rattle.definition.specs.Whole as Edit;
+ghost use Rattle.session.specs.Opening.{openingOf, wantedAt};
+ghost use Rattle.editing.specs.Meaning.{Opened, ReportRead, ResultRead, BaselineResultRead, BandRead};
+ghost use Rattle.demands.specs.Calls as Call;
+ghost use Rattle.demands.specs.Demands.{Meets, count};
+
+// ---- the calls
+
+pub fn open<'a>(
+    entered: Point,
+    ranges: &'a [f64],
+    drops: &'a [f64],
+    sigmas: &'a [f64],
+    priors: TruingPriorsV1,
+    distances: &'a [f64],
+    future: &'a [f64],
+    given: &'a [bool],
+) -> Answer
+    ensures { λ r. ⌜ Opened (openingOf entered (now (ranges .entry)) (now (drops .entry)) (now (sigmas .entry)) priors (now (distances .entry)) (now (future .entry)) (now (given .entry))) r ⌝ }
+{
+    editing::open(
+        entered, ranges, drops, sigmas, priors, distances, future, given,
+    )
+}
+
+pub fn reply<'a>(s: Session, reply: &'a [f64], missing: &'a [bool]) -> Answer
+    ensures { λ r. ⌜ Meets (Call.reply (now (reply .entry)) (now (missing .entry))) s r ⌝ }
+{
+    editing::reply(s, reply, missing)
+}
+
+pub fn refuse(s: Session) -> Answer
+    ensures { λ r. ⌜ Meets Call.refusePoint s r ⌝ }
+{
+    editing::refuse(s)
+}
+
+pub fn put_in(s: Session, place: usize, range: f64, sigma: f64, given: bool) -> Answer
+    ensures { λ r. ⌜ Meets (Call.change (Edit.putIn place (wantedAt range sigma given))) s r ⌝ }
+{
+    editing::put_in(s, place, range, sigma, given)
+}
+
+pub fn take_out(s: Session, place: usize) -> Answer
+    ensures { λ r. ⌜ Meets (Call.change (Edit.takeOut place)) s r ⌝ }
+{
+    editing::take_out(s, place)
+}
+
+pub fn exchange(s: Session, place: usize, range: f64, sigma: f64, given: bool) -> Answer
+    ensures { λ r. ⌜ Meets (Call.change (Edit.exchange place (wantedAt range sigma given))) s r ⌝ }
+{
+    editing::exchange(s, place, range, sigma, given)
+}
+
+// ---- reading
+
+pub fn asked(s: Session) -> u64
+    ensures { λ r. ⌜ r ≡ count s ⌝ }
+{
+    editing::asked(s)
+}
+
+pub fn report(s: Session) -> Shown
+    ensures { λ r. ⌜ ReportRead s r ⌝ }
+{
+    editing::report(s)
+}
+
+pub fn observation_result(s: Session, i: usize) -> ResultAt
+    ensures { λ r. ⌜ ResultRead s i r ⌝ }
+{
+    editing::observation_result(s, i)
+}
+
+pub fn baseline_result(s: Session, i: usize) -> ResultAt
+    ensures { λ r. ⌜ BaselineResultRead s i r ⌝ }
+{
+    editing::baseline_result(s, i)
+}
+
+pub fn predictive_band(s: Session, i: usize) -> BandAt
+    ensures { λ r. ⌜ BandRead s i r ⌝ }
+{
+    editing::predictive_band(s, i)
+}
