@@ -16,13 +16,21 @@ bcMin = ofBits binary64 0x3fa9_9999_9999_999a
 abbrev pub bcMax : Float
 bcMax = ofBits binary64 0x4000_0000_0000_0000
 
+-- MAP_OBJECTIVE_IMPROVEMENT_TOLERANCE, 1e-8
+abbrev pub improvementTolerance : Float
+improvementTolerance = ofBits binary64 0x3e45_798e_e230_8c3a
+
 -- "material": current − candidate > 1e-8, strictly
 unfoldable pub materialOf : Float → Float → Bool
-materialOf current candidate = lt (ofBits binary64 0x3e45_798e_e230_8c3a) (sub binary64 current candidate)
+materialOf current candidate = lt improvementTolerance (sub binary64 current candidate)
+
+-- the part of a range within which its bound is near, 1e-6
+abbrev pub boundTolerance : Float
+boundTolerance = ofBits binary64 0x3eb0_c6f7_a0b5_ed8d
 
 -- how near to a bound counts as at it: 1e-6 times the width of the range, the two operations each rounded
 unfoldable pub toleranceOf : Float → Float → Float
-toleranceOf lower upper = mul binary64 (ofBits binary64 0x3eb0_c6f7_a0b5_ed8d) (sub binary64 upper lower)
+toleranceOf lower upper = mul binary64 boundTolerance (sub binary64 upper lower)
 
 -- "near a bound": the speed or the coefficient is at most its tolerance above its lower or below its upper bound. A not-a-number is near none.
 unfoldable pub atBoundOf : Float → Float → Bool

@@ -1,5 +1,6 @@
 -- Doubles: each operation rounds once, to binary64. The constants of document 01 by their bits; each is the double nearest to its decimal (specs/Decimals.antt).
 use lib.Ieee.{Float, binary64, add, sub, mul, div, ofBits}
+use Rattle.numeric.specs.Numeric.{half64}
 
 infixl 65 _⊕_
 infixl 65 _⊖_
@@ -21,12 +22,9 @@ x ⊘ y = div binary64 x y
 abbrev pub squared : Float → Float
 squared x = x ⊗ x
 
--- 0.25, 0.5, 4 and 10
+-- 0.25, 4 and 10
 abbrev pub quarter : Float
 quarter = ofBits binary64 0x3fd0_0000_0000_0000
-
-abbrev pub half : Float
-half = ofBits binary64 0x3fe0_0000_0000_0000
 
 abbrev pub four : Float
 four = ofBits binary64 0x4010_0000_0000_0000
@@ -46,7 +44,7 @@ abbrev pub stepFraction : Float
 stepFraction = ofBits binary64 0x3f50_624d_d2f1_a9fc
 
 abbrev pub leastMvStep : Float
-leastMvStep = half
+leastMvStep = half64
 
 abbrev pub leastBcStep : Float
 leastBcStep = ofBits binary64 0x3f1a_36e2_eb1c_432d

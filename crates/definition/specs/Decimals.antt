@@ -5,12 +5,12 @@ use mathlib.Core.Bool.{Bool, true, false, _&&_}
 use mathlib.Core.List.{List, [], _∷_}
 use lib.Dec.{T, eqb}
 use lib.Ieee.{Float, binary64, round, toBits}
-use Rattle.numeric.specs.Numeric.{zero64, one64, two64}
-use Rattle.numeric.specs.Drop.{degreesPerRadian}
-use Rattle.matrix.specs.Matrix.{tolerance}
+use Rattle.numeric.specs.Numeric.{zero64, half64, one64, two64}
+use Rattle.numeric.specs.Drop.{degreesPerRadian, milsPerUnit, minutesPerDegree, metresPerInch}
+use Rattle.matrix.specs.Matrix.{tolerance, correlationTolerance}
 use Rattle.interval.specs.Interval.{level95, factor95}
-use Rattle.criteria.specs.Criteria.{mvMin, mvMax, bcMin, bcMax}
-use Rattle.definition.specs.Constants.{quarter, half, four, ten, mvScale, bcScale, stepFraction, leastMvStep, leastBcStep, firstDamping, leastDamping, leastDiagonal, leastDeterminant, flatGradient, firstRadius, leastRadius, varianceTolerance, leastSensitivityRatio, largestCondition, priorDominance, epsilon}
+use Rattle.criteria.specs.Criteria.{mvMin, mvMax, bcMin, bcMax, improvementTolerance, boundTolerance}
+use Rattle.definition.specs.Constants.{quarter, four, ten, mvScale, bcScale, stepFraction, leastMvStep, leastBcStep, firstDamping, leastDamping, leastDiagonal, leastDeterminant, flatGradient, firstRadius, leastRadius, varianceTolerance, leastSensitivityRatio, largestCondition, priorDominance, epsilon}
 
 pub record Decimal : Type 0 where
   pub constant : Float
@@ -23,10 +23,10 @@ decimal x n d = record { constant = x; numerator = n; denominator = d }
 abbrev pub decimals : List Decimal
 decimals =
     decimal zero64 0 1
+    ∷ decimal quarter 25 100
+    ∷ decimal half64 5 10
     ∷ decimal one64 1 1
     ∷ decimal two64 2 1
-    ∷ decimal quarter 25 100
-    ∷ decimal half 5 10
     ∷ decimal four 4 1
     ∷ decimal ten 10 1
     -- the range of the fit
@@ -34,13 +34,15 @@ decimals =
     ∷ decimal mvMax 5000 1
     ∷ decimal bcMin 5 100
     ∷ decimal bcMax 2 1
+    ∷ decimal boundTolerance 1 (10 ^ 6)
     -- scales and steps
     ∷ decimal mvScale 100 1
     ∷ decimal bcScale 1 10
     ∷ decimal stepFraction 1 (10 ^ 3)
     ∷ decimal leastMvStep 5 10
     ∷ decimal leastBcStep 1 (10 ^ 4)
-    -- damping and gradient
+    -- acceptance, damping and gradient
+    ∷ decimal improvementTolerance 1 (10 ^ 8)
     ∷ decimal firstDamping 1 (10 ^ 6)
     ∷ decimal leastDamping 1 (10 ^ 12)
     ∷ decimal leastDiagonal 1 (10 ^ 12)
@@ -49,8 +51,9 @@ decimals =
     -- the poll
     ∷ decimal firstRadius 1 (10 ^ 2)
     ∷ decimal leastRadius 1 (10 ^ 7)
-    -- the rank test of the inverse, the bands' tolerance
+    -- the rank test of the inverse, the columns' condition, the bands' tolerance
     ∷ decimal tolerance 1 (10 ^ 12)
+    ∷ decimal correlationTolerance 1 (10 ^ 15)
     ∷ decimal varianceTolerance 1 (10 ^ 12)
     -- the intervals
     ∷ decimal level95 95 100
@@ -60,7 +63,10 @@ decimals =
     ∷ decimal largestCondition 1000 1
     ∷ decimal priorDominance 8 10
     ∷ decimal epsilon 1 (2 ^ 52)
-    -- 180/π, as Rust prints the double
+    -- the units of a drop; 180/π as Rust prints the double
+    ∷ decimal milsPerUnit 1000 1
+    ∷ decimal minutesPerDegree 60 1
+    ∷ decimal metresPerInch 254 (10 ^ 4)
     ∷ decimal degreesPerRadian 5729577951308232 (10 ^ 14)
     ∷ []
 

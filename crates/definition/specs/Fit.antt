@@ -2,11 +2,11 @@
 use Prim.Native.Nat.{ℕ, zero, suc}
 use mathlib.Core.Bool.{Bool, cond, not, _||_}
 use lib.Ieee.{Float, neg, lt, le}
-use Rattle.numeric.specs.Numeric.{finite, absOf, maxOf}
+use Rattle.numeric.specs.Numeric.{half64, finite, absOf, maxOf}
 use Rattle.matrix.specs.Matrix.{determinantOf}
 use Rattle.matrix.specs.declared.Symmetric2.{Symmetric2}
 use Rattle.criteria.specs.Criteria.{materialOf}
-use Rattle.definition.specs.Constants.{_⊕_, _⊖_, _⊗_, _⊘_, half, four, ten, mvScale, bcScale, firstDamping, leastDamping, leastDiagonal, leastDeterminant, flatGradient}
+use Rattle.definition.specs.Constants.{_⊕_, _⊖_, _⊗_, _⊘_, four, ten, mvScale, bcScale, firstDamping, leastDamping, leastDiagonal, leastDeterminant, flatGradient}
 use Rattle.definition.specs.Request.{Measured}
 use Rattle.definition.specs.Run.{Run, done, _>>=_, _>>_}
 use Rattle.definition.specs.Likelihood.{objective, evaluate, evaluationOf, Rows}
@@ -47,7 +47,7 @@ stepOf p e damping =
 
 -- the damping after an acceptance, a rejection, and where the determinant is unfit
 unfoldable pub loweredOf : Float → Float
-loweredOf damping = maxOf (damping ⊗ half) leastDamping
+loweredOf damping = maxOf (damping ⊗ half64) leastDamping
 
 abbrev pub raised : Float → Float
 raised damping = damping ⊗ four

@@ -2,7 +2,7 @@
 use mathlib.Core.Bool.{Bool, false, cond, not, _&&_, _||_}
 use lib.Ieee.{Float, inf, binary64, add, sub, mul, div, neg, le, ofBits}
 use Rattle.root.specs.Root.{rootOf}
-use Rattle.numeric.specs.Numeric.{zero64, one64, two64, finite, absOf, clampOf, hypotOf}
+use Rattle.numeric.specs.Numeric.{zero64, half64, one64, two64, finite, absOf, clampOf, hypotOf}
 use Rattle.matrix.specs.declared.Symmetric2.{Symmetric2}
 use Rattle.matrix.specs.declared.Inverse.{Inverse}
 use Rattle.matrix.specs.declared.Inverse.the-variants.{Found, NonFiniteInformation, RankDeficientInformation}
@@ -24,7 +24,7 @@ unfoldable pub largestOf : Symmetric2 → Float
 largestOf s =
     let trace = add binary64 (s .a00) (s .a11) in
     let discriminant = hypotOf (sub binary64 (s .a00) (s .a11)) (mul binary64 two64 (s .a01)) in
-    mul binary64 (ofBits binary64 0x3fe0_0000_0000_0000) (add binary64 trace discriminant)
+    mul binary64 half64 (add binary64 trace discriminant)
 
 -- an inverse and its condition number, or document 01's refusals NonFinite and RankDeficient
 pub data Inverted : Type 0 where
@@ -59,10 +59,14 @@ inverseOf s =
     (cond (not (finite smallest) || le smallest zero64 || le (div binary64 smallest largest) tolerance) rankDeficient
     (cond (not (entriesFinite m)) nonFinite (inverse m (div binary64 largest smallest))))))
 
+-- 1e-15: a correlation that near to 1 counts as 1
+abbrev pub correlationTolerance : Float
+correlationTolerance = ofBits binary64 0x3cd2_03af_9ee7_5616
+
 -- "column condition": infinity if a00 ≤ 0 or a11 ≤ 0; with the correlation's absolute value c, infinity if 1 − c ≤ 1e-15, and else (1 + c)/(1 − c)
 unfoldable pub columnConditionOf : Symmetric2 → Float
 columnConditionOf s =
     let correlation = clampOf (div binary64 (s .a01) (rootOf (mul binary64 (s .a00) (s .a11)))) (neg one64) one64 in
     let c = absOf correlation in
     cond (le (s .a00) zero64 || le (s .a11) zero64) (inf false)
-    (cond (le (sub binary64 one64 c) (ofBits binary64 0x3cd2_03af_9ee7_5616)) (inf false) (div binary64 (add binary64 one64 c) (sub binary64 one64 c)))
+    (cond (le (sub binary64 one64 c) correlationTolerance) (inf false) (div binary64 (add binary64 one64 c) (sub binary64 one64 c)))

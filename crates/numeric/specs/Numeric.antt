@@ -7,6 +7,10 @@ use Rattle.root.specs.Root.{rootOf}
 abbrev pub zero64 : Float
 zero64 = ofBits binary64 0
 
+-- 0.5
+abbrev pub half64 : Float
+half64 = ofBits binary64 0x3fe0_0000_0000_0000
+
 abbrev pub one64 : Float
 one64 = ofBits binary64 0x3ff0_0000_0000_0000
 
