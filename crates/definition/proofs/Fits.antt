@@ -1,10 +1,12 @@
--- How each fit of a run was verified, and after how many evaluations: `fit-shown`. Assumes nothing.
+-- How each fit of a run was verified, and after how many evaluations: `fit-shown`, with the radius that the source tests: `radius-tested`. Assumes nothing.
 use Prim.Native.Nat.{ℕ, zero, suc, _+_, _≤_}
-use mathlib.Core.Path.{_≡_, refl, ap, _∙_}
+use mathlib.Core.Path.{_≡_, refl, sym, ap, _∙_, subst}
 use mathlib.Core.Bool.{Bool, true, false, cond}
 use mathlib.Core.List.{List}
 use native.Mathlib.Omega.{arith}
-use lib.Ieee.{Float}
+use lib.Dec.{eqb}
+use lib.Ieee.{Float, le}
+use borrow.Author.Tests.{ne-eqb}
 use Rattle.numeric.specs.declared.Direction.{Direction}
 use Rattle.criteria.specs.Criteria.{materialOf}
 use Rattle.definition.specs.Constants.{leastRadius}
@@ -15,7 +17,7 @@ use Rattle.definition.specs.Mesh.{notConverged, Poll, Pass, Turn, evalua
 use Rattle.definition.specs.Fit.{Fit, Trial, accepted, exhausted, flatOf, trials, meshed, verified, verify, onTrial, evaluated, iterate, fitMap}
 use Rattle.definition.specs.Summary.{Finished}
 use Rattle.definition.specs.Whole.{checkedMeasured, checkedRequested, bandRows, baseline, concluded, banded, fitted, run, whole}
-use Rattle.definition.specs.Laws.{Every, Shown, FitShown, radiusAfter}
+use Rattle.definition.specs.Laws.{Every, Shown, FitShown, radiusAfter, Level, RadiusTested}
 use Rattle.definition.specs.declared.Point.{Point}
 use Rattle.definition.specs.declared.Evaluation.{Evaluation}
 use Rattle.definition.proofs.Polls.{ten-radii}
@@ -47,12 +49,6 @@ module _ {B : Type 0} (P : B → Type 0) where
 
 -- ---- the poll
 
--- a radius with so many smaller ones to come
-record Level (radius : Float) (smaller : ℕ) : Type 0 where
-  before : ℕ
-  sum : before + smaller ≡ 9
-  is : radius ≡ radiusAfter before
-
 level-last : (radius : Float) → Level radius 0 → radius ≡ leastRadius
 level-last radius l =
     let s = l .sum in
@@ -70,42 +66,42 @@ ShownPoll r = Shown (r .convergence) (r .evaluations)
 -- a turn after n evaluations
 abbrev TurnShown : ℕ → Turn → Type 0
 TurnShown n (evaluates c s) = Level (s .radius) (s .smaller) × (s .evaluations ≡ n)
-TurnShown n (ended r) = ShownPoll r
+TurnShown n (ended r) = n ≤ 1024 → ShownPoll r
 
 on-look-shown : (l : Looked) (n : ℕ) (none : Turn) (some : Point → List Point → Turn) → TurnShown n none
     → ((c : Point) (ds : List Point) → TurnShown n (some c ds)) → TurnShown n (onLook l none some)
 on-look-shown noneMoved n none some h k = h
 on-look-shown (moved c ds) n none some h k = k c ds
 
-ungained-shown : (axis : Direction) (radius : Float) (smaller : ℕ) (centre : Point) (current best : Float) (n : ℕ) → Level radius smaller → n ≤ 1024
+ungained-shown : (axis : Direction) (radius : Float) (smaller : ℕ) (centre : Point) (current best : Float) (n : ℕ) → Level radius smaller
     → TurnShown n (ungained axis radius smaller centre current best n)
 unfolding ungained
-ungained-shown axis radius zero centre current best n l h = (level-last radius l, h)
-ungained-shown axis radius (suc smaller) centre current best n l h =
+ungained-shown axis radius zero centre current best n l = λ h. (level-last radius l, h)
+ungained-shown axis radius (suc smaller) centre current best n l =
     let m = level-next radius smaller l in
-    on-look-shown (look (quarteredOf radius) centre (directions axis)) n _ _ (ungained-shown axis (quarteredOf radius) smaller centre current current n m h)
+    on-look-shown (look (quarteredOf radius) centre (directions axis)) n _ _ (ungained-shown axis (quarteredOf radius) smaller centre current current n m)
     (λ c ds. (m, refl))
 
-begin-shown : (axis : Direction) (radius : Float) (smaller : ℕ) (centre : Point) (current : Float) (n : ℕ) → Level radius smaller → n ≤ 1024
+begin-shown : (axis : Direction) (radius : Float) (smaller : ℕ) (centre : Point) (current : Float) (n : ℕ) → Level radius smaller
     → TurnShown n (begin axis radius smaller centre current n)
 unfolding begin
-begin-shown axis radius smaller centre current n l h =
-    on-look-shown (look radius centre (directions axis)) n _ _ (ungained-shown axis radius smaller centre current current n l h) (λ c ds. (l, refl))
+begin-shown axis radius smaller centre current n l =
+    on-look-shown (look radius centre (directions axis)) n _ _ (ungained-shown axis radius smaller centre current current n l) (λ c ds. (l, refl))
 
-judged-shown : (s : Pass) → Level (s .radius) (s .smaller) → s .evaluations ≤ 1024 → TurnShown (s .evaluations) (judged s)
+judged-shown : (s : Pass) → Level (s .radius) (s .smaller) → TurnShown (s .evaluations) (judged s)
 unfolding judged
-judged-shown s l h = go (materialOf (s .current) (s .best))
+judged-shown s l = go (materialOf (s .current) (s .best))
   where
     go : (b : Bool)
         → TurnShown (s .evaluations) (cond b
         (begin (s .axis) (s .radius) (s .smaller) (s .bestPoint) (s .best) (s .evaluations))
         (ungained (s .axis) (s .radius) (s .smaller) (s .centre) (s .current) (s .best) (s .evaluations)))
-    go true = begin-shown (s .axis) (s .radius) (s .smaller) (s .bestPoint) (s .best) (s .evaluations) l h
-    go false = ungained-shown (s .axis) (s .radius) (s .smaller) (s .centre) (s .current) (s .best) (s .evaluations) l h
+    go true = begin-shown (s .axis) (s .radius) (s .smaller) (s .bestPoint) (s .best) (s .evaluations) l
+    go false = ungained-shown (s .axis) (s .radius) (s .smaller) (s .centre) (s .current) (s .best) (s .evaluations) l
 
-turn-shown : (s : Pass) → Level (s .radius) (s .smaller) → s .evaluations ≤ 1024 → TurnShown (s .evaluations) (turn s)
+turn-shown : (s : Pass) → Level (s .radius) (s .smaller) → TurnShown (s .evaluations) (turn s)
 unfolding turn
-turn-shown s l h = on-look-shown (look (s .radius) (s .centre) (s .remaining)) (s .evaluations) _ _ (judged-shown s l h) (λ c ds. (l, refl))
+turn-shown s l = on-look-shown (look (s .radius) (s .centre) (s .remaining)) (s .evaluations) _ _ (judged-shown s l) (λ c ds. (l, refl))
 
 stopped-at-shown : (k : ℕ) (s : Pass) → Level (s .radius) k → s .evaluations ≡ 1024 → ShownPoll (stoppedAt k s)
 stopped-at-shown zero s l e = (level-last (s .radius) l, omega arith)
@@ -120,18 +116,45 @@ stopped-shown s l e = go (materialOf (s .current) (s .best))
     go true = e
     go false = stopped-at-shown (s .smaller) s l e
 
+-- ---- the radius is tested
+
+level-tested : (radius : Float) (smaller : ℕ) → Level radius smaller → le radius leastRadius ≡ eqb smaller 0
+level-tested radius smaller l =
+    let s = l .sum in
+    ap (λ (r : Float). le r leastRadius) (l .is) ∙ ten-radii .tested (l .before) (omega arith) ∙ by smaller s
+  where
+    by : (k : ℕ) → l .before + k ≡ 9 → eqb (l .before) 9 ≡ eqb k 0
+    by zero e = ap (λ (n : ℕ). eqb n 9) (is-nine e)
+      where
+        is-nine : l .before + 0 ≡ 9 → l .before ≡ 9
+        is-nine q = omega arith
+    by (suc k) e = ne-eqb (l .before) 9 (λ q. omega arith) ∙ sym (ne-eqb (suc k) 0 (λ q. omega arith))
+
+turn-level : (s t : Pass) (c : Point) → Level (s .radius) (s .smaller) → turn s ≡ evaluates c t → Level (t .radius) (t .smaller)
+turn-level s t c l e = subst (TurnShown (s .evaluations)) e (turn-shown s l) .0
+
+pub radius-tested : RadiusTested
+unfolding seen
+radius-tested = record {
+  first = λ information centre current. record { before = 0; sum = refl; is = refl };
+  next = turn-level;
+  seen-same = λ s c value l. l;
+  quartered = level-next;
+  tested = level-tested;
+}
+
 module _ (m : Measured) where
-  on-turn-shown : (n : ℕ) (go : Pass → Run Poll) (t : Turn) → TurnShown n t
+  on-turn-shown : (n : ℕ) (go : Pass → Run Poll) (t : Turn) → TurnShown n t → n ≤ 1024
       → ((s : Pass) → Level (s .radius) (s .smaller) → s .evaluations ≡ suc n → Every ShownPoll (go s)) → Every ShownPoll (onTurn m go t)
   unfolding seen
-  on-turn-shown n go (ended r) h k = every-done ShownPoll r h
-  on-turn-shown n go (evaluates c s) h k = every-after ShownPoll (objective m c) _ (λ value. k (seen c value s) (h .0) (ap suc (h .1)))
+  on-turn-shown n go (ended r) h l k = every-done ShownPoll r (h l)
+  on-turn-shown n go (evaluates c s) h l k = every-after ShownPoll (objective m c) _ (λ value. k (seen c value s) (h .0) (ap suc (h .1)))
 
   poll-shown : (left : ℕ) (s : Pass) → Level (s .radius) (s .smaller) → left + s .evaluations ≡ 1024 → Every ShownPoll (poll m left s)
   unfolding poll
   poll-shown zero s l e = every-done ShownPoll _ (stopped-shown s l (omega arith))
   poll-shown (suc left) s l e =
-      on-turn-shown (s .evaluations) (poll m left) (turn s) (turn-shown s l (omega arith)) (λ t k h. poll-shown left t k (omega arith))
+      on-turn-shown (s .evaluations) (poll m left) (turn s) (turn-shown s l) (omega arith) (λ t k h. poll-shown left t k (omega arith))
 
   -- ---- the fit
 

@@ -2,7 +2,7 @@
 -- Questions.antt (the number of questions), Polls.antt, Fits.antt, Warnings.antt, Ranges.antt, Presence.antt.
 -- That the fit, the evaluation at the fit and the baseline do not see the requested distances needs no theorem: `fitMap`, `evaluate` and `baseline` take no list
 -- of them (Fit.antt, Likelihood.antt, Whole.antt), and `run` hands `fitMap` the `Measured` alone.
-use Prim.Native.Nat.{ℕ, zero, suc, _≤_}
+use Prim.Native.Nat.{ℕ, zero, suc, _+_, _≤_}
 use mathlib.Core.Path.{_≡_}
 use mathlib.Core.Bool.{Bool, true, false}
 use mathlib.Core.List.{List, [], _∷_}
@@ -18,7 +18,7 @@ use Rattle.criteria.specs.Criteria.{atBoundOf}
 use Rattle.definition.specs.Constants.{firstRadius, leastRadius}
 use Rattle.definition.specs.Request.{Measured, Opening}
 use Rattle.definition.specs.Run.{Run, done, refuse, ask, Reply}
-use Rattle.definition.specs.Mesh.{Convergence, notConverged, scaledGradient, objectiveMesh, Poll, poll, firstPass, quarteredOf}
+use Rattle.definition.specs.Mesh.{Convergence, notConverged, scaledGradient, objectiveMesh, Poll, Pass, evaluates, turn, seen, poll, firstPass, quarteredOf}
 use Rattle.definition.specs.Fit.{found, polled}
 use Rattle.definition.specs.Summary.{interval95, Approximation, available, covarianceOf, correlationOf, approximationOf, Finished, reportOf}
 use Rattle.definition.specs.Whole.{noRows, bandRows, whole, Edit, edit}
@@ -83,11 +83,25 @@ abbrev pub radiusAfter : ℕ → Float
 radiusAfter zero = firstRadius
 radiusAfter (suc n) = quarteredOf (radiusAfter n)
 
--- Theorem `ten-radii`: 1e-2 quartered nine times is 1e-7, and no radius before it is as small. So the source's test for the last radius, `radius <= 1e-7`, holds
--- exactly where no smaller radius is to come.
+-- Theorem `ten-radii`: 1e-2 quartered nine times is 1e-7, and no radius before it is as small.
 pub record TenRadii : Type 0 where
   pub last : radiusAfter 9 ≡ leastRadius
   pub tested : (n : ℕ) → n ≤ 9 → le (radiusAfter n) leastRadius ≡ eqb n 9
+
+-- a radius that is one of the ten, with so many smaller ones to come
+pub record Level (radius : Float) (smaller : ℕ) : Type 0 where
+  pub before : ℕ
+  pub sum : before + smaller ≡ 9
+  pub is : radius ≡ radiusAfter before
+
+-- Theorem `radius-tested`: every pass of a poll has such a radius, from the first pass on, and so has what a pass without a gain goes on with. There the source's test
+-- for the last radius, `radius <= 1e-7`, holds exactly where the countdown says that no smaller one is to come.
+pub record RadiusTested : Type 0 where
+  pub first : (information : Symmetric2) (centre : Point) (current : Float) → let s = firstPass information centre current in Level (s .radius) (s .smaller)
+  pub next : (s t : Pass) (c : Point) → Level (s .radius) (s .smaller) → turn s ≡ evaluates c t → Level (t .radius) (t .smaller)
+  pub seen-same : (s : Pass) (c : Point) (value : Float) → Level (s .radius) (s .smaller) → Level (seen c value s .radius) (seen c value s .smaller)
+  pub quartered : (radius : Float) (smaller : ℕ) → Level radius (suc smaller) → Level (quarteredOf radius) smaller
+  pub tested : (radius : Float) (smaller : ℕ) → Level radius smaller → le radius leastRadius ≡ eqb smaller 0
 
 module _ {A : Type 0} where
   -- each result of the run has the property
