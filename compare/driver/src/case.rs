@@ -3,6 +3,7 @@
 use crate::rng::Rng;
 use crate::solver::{self, Base, Slip, Solver};
 use estimator::{Opening, Place, Requested, Variant};
+use oracle::form::Edit;
 
 #[derive(Debug, Clone)]
 pub struct Case {
@@ -13,6 +14,8 @@ pub struct Case {
     pub noise: f64,
     /// How many edits follow a report.
     pub edits: usize,
+    /// Edits that are laid down beforehand; they come before those.
+    pub plan: Vec<Edit>,
 }
 
 const BAD: [f64; 6] = [f64::NAN, f64::INFINITY, f64::NEG_INFINITY, 0.0, -0.0, -3.0];
@@ -73,6 +76,7 @@ impl Case {
             solver,
             noise: rng.pick(&[0.0, 0.0, 0.0, 0.0, 0.01, 0.1]),
             edits: if rng.chance(0.3) { rng.between(1, 5) } else { 0 },
+            plan: Vec::new(),
         }
     }
 }

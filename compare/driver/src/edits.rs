@@ -12,7 +12,7 @@ use oracle::form::Edit;
 use oracle::Host;
 
 /// What a session opened with this list ends in, as its line.
-fn fresh(case: &Case, list: &[Requested]) -> String {
+pub fn fresh(case: &Case, list: &[Requested]) -> String {
     let opening = Opening { distances: list.to_vec(), ..case.opening.clone() };
     let declined = |(number, position)| format!("(declined {number} {position})");
     if let Some(refusal) = estimator::opening_refusal(&opening) {
@@ -229,7 +229,7 @@ impl Bookkeeper<'_> {
 }
 
 /// The list that an edit makes, or nothing if its place is outside.
-fn made(edit: Edit, list: &[Requested]) -> Option<Vec<Requested>> {
+pub fn made(edit: Edit, list: &[Requested]) -> Option<Vec<Requested>> {
     let last = list.len() as u64 + matches!(edit, Edit::PutIn(..)) as u64;
     if edit.place() < 1 || edit.place() > last {
         return None;

@@ -49,6 +49,7 @@ struct Player {
     /// The requested list as the host knows it, and as the open edit makes it.
     book: Vec<Requested>,
     edit: Option<(Edit, Vec<Requested>)>,
+    plan: VecDeque<Edit>,
     edits_left: usize,
     closed: bool,
     script: Script,
@@ -63,6 +64,7 @@ pub fn play(case: &Case, line: &mut u64) -> Script {
         number: 0,
         book: case.opening.distances.clone(),
         edit: None,
+        plan: case.plan.iter().copied().collect(),
         edits_left: case.edits,
         closed: false,
         script: Script::default(),
@@ -156,15 +158,20 @@ impl Player {
             };
             self.number += 1;
             let mut reply = self.case.solver.reply(self.number, mv, bc, &list);
-            // Now and then an edit's solver fails.
-            if question.list == "new" && self.rng.chance(0.03) {
+            // Now and then the solver of an edit that is not planned fails.
+            let planned = !self.case.plan.is_empty();
+            if question.list == "new" && !planned && self.rng.chance(0.03) {
                 reply = if self.rng.chance(0.5) { None } else { Some(vec![None]) };
             }
             return Some(write::reply(&reply).into_bytes());
         }
+        if let Some(edit) = self.plan.pop_front() {
+            return Some(self.edit_line(edit));
+        }
         if self.edits_left > 0 {
             self.edits_left -= 1;
-            return Some(self.edit_line());
+            let edit = self.random_edit();
+            return Some(self.edit_line(edit));
         }
         // Sometimes a line more, then a declined opening: no session is left.
         self.closed = true;
@@ -178,8 +185,7 @@ impl Player {
         self.next_line()
     }
 
-    fn edit_line(&mut self) -> Vec<u8> {
-        let edit = self.random_edit();
+    fn edit_line(&mut self, edit: Edit) -> Vec<u8> {
         // A run may have ended in a refusal: then this is only a line.
         let mut list = self.book.clone();
         let place = edit.place() as usize;

@@ -9,9 +9,10 @@ use crate::rng::mix;
 use crate::solver::{Base, Gap, Slip, Solver};
 use crate::tally::Tally;
 use crate::write;
-use estimator::{Opening, Requested};
+use estimator::{Opening, Requested, LIMIT};
+use oracle::form::Edit;
 
-/// About how many bytes the two files may have together.
+/// About how many bytes the two files may have together, the long lists left out.
 const BYTES: usize = 400_000;
 const CASES: usize = 420;
 
@@ -21,7 +22,8 @@ fn solver(base: Base) -> Solver {
 
 fn case(entered: [f64; 2], shots: &[[f64; 3]], base: Base) -> Case {
     let opening = Opening { entered, shots: shots.to_vec(), ..Opening::default() };
-    Case { seed: 1, opening, solver: solver(base), noise: 0.0, edits: 0 }
+    let solver = solver(base);
+    Case { seed: 1, opening, solver, noise: 0.0, edits: 0, plan: Vec::new() }
 }
 
 fn wanted(mut case: Case, distances: &[f64]) -> Case {
@@ -93,6 +95,60 @@ pub fn named() -> Vec<(&'static str, Case)> {
         ("refused baseline", slipped(bench(), 17, Slip::Refused)),
         ("gap in the baseline", slipped(bench(), 17, Slip::Missing)),
         ("not finite baseline", slipped(bench(), 17, Slip::Value(1e200))),
+    ]
+}
+
+/// As many records as a list may have: both lists at once, with edits of the
+/// longest report, and each alone.
+fn long() -> Vec<(&'static str, Case)> {
+    let flight = solver(Base::Flight);
+    // With these figures each fit ends by its gradient, without a poll.
+    let shot = |i: usize| {
+        let (at, sigma) = (200.0 + 15.0 * i as f64, 1.0 + (i % 16) as f64 / 16.0);
+        let off = 0.1 * sigma * ((i * 5 % 7) as f64 - 3.0);
+        [at, flight.drop(1, 2701.0, 0.4, at) + off, sigma]
+    };
+    let entry = |i: usize| Requested {
+        distance: 150.0 + 17.0 * i as f64,
+        sigma: Some(0.1 + 0.02 * i as f64),
+    };
+    let shots: Vec<[f64; 3]> = (0..LIMIT).map(shot).collect();
+    let distances: Vec<Requested> = (0..LIMIT).map(entry).collect();
+    let opened = |shots: &[[f64; 3]], distances: &[Requested], plan: &[Edit]| {
+        let mut case = case([2700.0, 0.4], shots, Base::Flight);
+        case.opening.distances = distances.to_vec();
+        case.plan = plan.to_vec();
+        // No distance of a list is so far, but an edit's is.
+        case.solver.gap = Gap::MissingBeyond(2000.0);
+        case
+    };
+    let full = LIMIT as u64;
+    let refused = [
+        Edit::PutIn(full + 1, 700.0, Some(1.0)),
+        Edit::PutIn(1, f64::NAN, None),
+        Edit::PutIn(full + 2, 700.0, None),
+        Edit::Exchange(full + 1, 700.0, None),
+        Edit::TakeOut(full + 1),
+        Edit::Exchange(full / 2, 2100.0, Some(1.0)),
+    ];
+    // The two that the missing drop refuses are followed by a report of the old list.
+    let ended = [
+        Edit::TakeOut(1),
+        Edit::TakeOut(full - 1),
+        Edit::PutIn(1, 2100.0, None),
+        Edit::Exchange(full / 2, 333.0, Some(0.75)),
+        Edit::PutIn(full - 1, 1250.0, None),
+        Edit::PutIn(1, 125.0, Some(0.5)),
+        Edit::PutIn(1, 700.0, None),
+    ];
+    let mut both = opened(&shots, &distances, &[refused.as_slice(), &ended].concat());
+    both.opening.speed_prior = Some([2710.0, 100.0]);
+    both.opening.coefficient_prior = Some([0.39, 0.1]);
+    let into_none = [Edit::PutIn(1, 700.0, Some(1.0))];
+    vec![
+        ("64 shots and 64 distances", both),
+        ("64 shots", opened(&shots, &[], &into_none)),
+        ("64 distances", opened(&[shots[20], shots[60]], &distances, &[])),
     ]
 }
 
@@ -417,6 +473,13 @@ pub fn write(directory: &Path) -> io::Result<()> {
             scripts.push((format!("random {seed}"), script));
         }
     }
+    // The long lists come after these and are not counted among their bytes.
+    for (name, case) in long() {
+        let script = player::play(&case, &mut line);
+        bytes += size(&script);
+        tally.add(&script);
+        scripts.push((name.to_string(), script));
+    }
     tally.print();
     println!("{} cases, {bytes} bytes", scripts.len());
 
@@ -448,6 +511,7 @@ pub fn write(directory: &Path) -> io::Result<()> {
 mod tests {
     use super::*;
     use crate::case::answering;
+    use crate::edits;
     use estimator::{Place, Report, Variant};
 
     struct Seen {
@@ -607,6 +671,57 @@ mod tests {
         for name in ["refused baseline", "gap in the baseline", "not finite baseline"] {
             assert_eq!(seen(name).leaf("baseline"), "none", "{name}");
         }
+    }
+
+    /// The lists are at their limit, with every interval, and no fit polls.
+    #[test]
+    fn long_lists() {
+        let counts = [[LIMIT, LIMIT], [LIMIT, 0], [2, LIMIT]];
+        for ((name, case), [shots, distances]) in long().iter().zip(counts) {
+            let seen = run(case);
+            let count = |leaf: &str| seen.report.leaves.iter().filter(|l| l.0 == leaf).count();
+            for (leaf, parts, due) in [
+                ("observations, echoed", 3, shots),
+                ("baseline.observations, echoed", 3, shots),
+                ("bands.range_yd", 1, distances),
+                ("bands.latent_interval_95", 5, distances),
+                ("bands.future_observation_interval_95", 5, distances),
+                ("covariance", 3, 1),
+            ] {
+                assert_eq!(count(leaf), parts * due, "{name}: {leaf}");
+            }
+            assert_eq!(seen.leaf("map_objective_poll_evaluations"), "0", "{name}");
+        }
+    }
+
+    /// Each planned edit that ends gives the report of a fresh run; the others their number.
+    #[test]
+    fn long_edits() {
+        let mut refused = Vec::new();
+        for (name, case) in long() {
+            let script = player::play(&case, &mut 0);
+            let ends = |a: &&String| a.starts_with("(report ") || a.starts_with("(declined ");
+            let kept = script.lines.len() - script.closing;
+            let found: Vec<&String> =
+                script.answers[..kept].iter().flatten().filter(ends).collect();
+            assert_eq!(found.len(), 1 + case.plan.len(), "{name}");
+            let mut book = case.opening.distances.clone();
+            assert_eq!(*found[0], edits::fresh(&case, &book), "{name}");
+            for (edit, found) in case.plan.iter().zip(&found[1..]) {
+                let Some(list) = edits::made(*edit, &book) else {
+                    assert_eq!(*found, "(declined 15 0)", "{name}: {edit:?}");
+                    continue;
+                };
+                assert_eq!(**found, edits::fresh(&case, &list), "{name}: {edit:?}");
+                if found.starts_with("(report ") {
+                    book = list;
+                } else {
+                    refused.push(found.to_string());
+                }
+            }
+        }
+        let full = "(declined 6 0)";
+        assert_eq!(refused, [full, full, "(declined 13 32)", "(declined 13 1)", full]);
     }
 
     /// The files kept beside this program are those that it writes.
