@@ -4,7 +4,8 @@ use mathlib.Core.Path.{_≡_, refl, sym, ap, _∙_, fun-ext, subst}
 use mathlib.Core.List.{List}
 use mathlib.Core.Bool.{Bool, true, false, cond}
 use native.Mathlib.Omega.{arith}
-use borrow.Author.Tests.{lt-ltb}
+use borrow.Author.Tests.{lt-ltb, ltb-false}
+use lib.Dec.{ltb}
 use lib.Ieee.{Float}
 use Rattle.definition.specs.Request.{Requested, Measured}
 use Rattle.definition.specs.Run.{Run, done, refuse, ask, bind, Reply}
@@ -23,7 +24,7 @@ use Rattle.criteria.specs.Criteria.{materialOf}
 use Rattle.objective_mesh.specs.Meaning.{passOf, pollOf, seenWithin}
 use Rattle.objective_mesh.specs.declared.Pass.{Pass}
 use Rattle.objective_mesh.specs.declared.Poll.{Poll}
-use Rattle.fitting.specs.Meaning.{iterationsOf, fitOf, onward, trialsLeft, afterTrials, afterPoll, afterRows, afterTrial, afterLook, restOf, Moves, AfterRows, foundAt, flatAt, iterationAt, candidateAt, polledAt, pollAt, startAt}
+use Rattle.fitting.specs.Meaning.{iterationsOf, leftOf, fitOf, onward, trialsLeft, afterTrials, afterPoll, afterRows, afterTrial, afterLook, restOf, Moves, AfterRows, foundAt, flatAt, iterationAt, candidateAt, polledAt, pollAt, startAt}
 use Rattle.fitting.specs.declared.Progress.{Progress}
 use Rattle.fitting.specs.declared.Stage.the-variants as Stage
 use Rattle.fitting.specs.declared.Wait.the-variants as Wait
@@ -55,7 +56,7 @@ none-left m (suc left) p v d n e = absurd (omega arith)
 pub last-iteration : (g : Progress) (m : Measured) (ds : List Requested) → g .left ≡ 0 → restOf m ds g (Wait.Evaluation Stage.Final) ≡ iterationAt g m ds
 last-iteration g m ds e =
     final g m ds
-    ∙ ap (λ (t : Run fit.Fit). bind t (whole.fitted m ds)) (sym (none-left m (g .left) (g .point) (g .current) (g .damping) (iterationsOf g) e))
+    ∙ ap (λ (t : Run fit.Fit). bind t (whole.fitted m ds)) (sym (none-left m (leftOf g) (g .point) (g .current) (g .damping) (iterationsOf g) (omega arith)))
 
 abbrev withLeft : Progress → ℕ → Progress
 withLeft g left = record {
@@ -70,23 +71,22 @@ withLeft g left = record {
   evaluations = g .evaluations;
 }
 
-one-more : (l : ℕ) → suc l ≤ 100 → suc (100 - suc l) ≡ 100 - l
-one-more l h = omega arith
-
-some-left : (g : Progress) (m : Measured) (ds : List Requested) (l left : ℕ) → left ≡ suc l → left ≤ 100
-    → restOf m ds (withLeft g l) (Wait.Evaluation Stage.Iteration) ≡ bind (fit.iterate m left (g .point) (g .current) (g .damping) (100 - left)) (whole.fitted m ds)
+some-left : (g : Progress) (m : Measured) (ds : List Requested) (l left n : ℕ) → left ≡ suc l → left ≤ 100 → n ≡ 100 - left
+    → restOf m ds (withLeft g l) (Wait.Evaluation Stage.Iteration) ≡ bind (fit.iterate m left (g .point) (g .current) (g .damping) n) (whole.fitted m ds)
 unfolding fit.iterate
-some-left g m ds l zero e h = absurd (omega arith)
-some-left g m ds l (suc k) e h =
-    let d : k ≡ l = omega arith in
-    let q : 100 - l ≡ suc (100 - suc k) = omega arith in
-    ap (λ (n : ℕ). bind (likelihood.evaluate (g .point)) (λ rows. bind (fit.evaluated m (λ p v w. fit.iterate m l p v w n) (g .point) (g .current) (g .damping) n rows) (whole.fitted m ds))) q
-    ∙ ap (λ (j : ℕ). bind (likelihood.evaluate (g .point)) (λ rows. bind (fit.evaluated m (λ p v w. fit.iterate m j p v w (suc (100 - suc k))) (g .point) (g .current) (g .damping) (suc (100 - suc k)) rows) (whole.fitted m ds))) (sym d)
-    ∙ sym (bind-assoc (likelihood.evaluate (g .point)) (fit.evaluated m (λ p v w. fit.iterate m k p v w (suc (100 - suc k))) (g .point) (g .current) (g .damping) (suc (100 - suc k))) (whole.fitted m ds))
+some-left g m ds l zero n e h w = absurd (omega arith)
+some-left g m ds l (suc k) n e h w =
+    let d : 100 - (100 - l) ≡ k = omega arith in
+    let q : 100 - l ≡ suc n = omega arith in
+    ap (λ (j : ℕ). bind (likelihood.evaluate (g .point)) (λ rows. bind (fit.evaluated m (λ p v w. fit.iterate m j p v w (100 - l)) (g .point) (g .current) (g .damping) (100 - l) rows) (whole.fitted m ds))) d
+    ∙ ap (λ (j : ℕ). bind (likelihood.evaluate (g .point)) (λ rows. bind (fit.evaluated m (λ p v w. fit.iterate m k p v w j) (g .point) (g .current) (g .damping) j rows) (whole.fitted m ds))) q
+    ∙ sym (bind-assoc (likelihood.evaluate (g .point)) (fit.evaluated m (λ p v w. fit.iterate m k p v w (suc n)) (g .point) (g .current) (g .damping) (suc n)) (whole.fitted m ds))
 
-pub another-iteration : (g : Progress) (m : Measured) (ds : List Requested) → (g .left ≡ 0 → ⊥) → g .left ≤ 100
-    → restOf m ds (withLeft g (g .left - 1)) (Wait.Evaluation Stage.Iteration) ≡ iterationAt g m ds
-another-iteration g m ds n h = some-left g m ds (g .left - 1) (g .left) (omega arith) h
+pub another-iteration : (g : Progress) (left : ℕ) (m : Measured) (ds : List Requested) → (g .left ≡ 0 → ⊥) → left ≡ leftOf g
+    → restOf m ds (withLeft g (left - 1)) (Wait.Evaluation Stage.Iteration) ≡ iterationAt g m ds
+another-iteration g left m ds n e =
+    ap (λ (k : ℕ). restOf m ds (withLeft g (k - 1)) (Wait.Evaluation Stage.Iteration)) e
+    ∙ some-left g m ds (leftOf g - 1) (leftOf g) (iterationsOf g) (omega arith) (omega arith) (omega arith)
 
 -- ---- damping trials
 
@@ -177,7 +177,9 @@ pub poll-looks : (g : Progress) (c : Point) (s : Pass) (m : Measured) (ds : List
     → restOf m ds (withPass g s) (Wait.Look c) ≡ pollAt g m ds
 poll-looks g c s m ds h e =
     let same : s .evaluations ≡ g .pass .evaluations = ap evaluationsOf e ∙ turn-same (passOf (g .pass)) in
-    ap (λ (n : ℕ). bind (likelihood.objective m c) (λ v. bind (mesh.poll m (1023 - n) (mesh.seen c v (passOf s))) (afterPoll m ds g))) same
+    let left : s .evaluations < 1024 = omega arith in
+    ap (λ (b : Bool). bind (likelihood.objective m c) (λ v. bind (mesh.poll m (1023 - s .evaluations) (cond b (mesh.seen c v (passOf s)) (passOf s))) (afterPoll m ds g))) (lt-ltb (s .evaluations) 1024 left)
+    ∙ ap (λ (n : ℕ). bind (likelihood.objective m c) (λ v. bind (mesh.poll m (1023 - n) (mesh.seen c v (passOf s))) (afterPoll m ds g))) same
     ∙ sym (bind-assoc (likelihood.objective m c) (λ v. mesh.poll m (1023 - g .pass .evaluations) (mesh.seen c v (passOf s))) (afterPoll m ds g))
     ∙ turn-by g m ds (mesh.evaluates c (passOf s)) h e
 
@@ -263,7 +265,7 @@ withPoint g p current damping = record {
 pub trial-accepted : (g : Progress) (q : Point) (v damping : Float) (m : Measured) (ds : List Requested) → materialOf (g .current) v ≡ true → damping ≡ fit.loweredOf (g .damping)
     → iterationAt (withPoint g q v damping) m ds ≡ afterTrial m ds g q v
 trial-accepted g q v damping m ds t e =
-    ap (λ (d : Float). bind (fit.iterate m (g .left) q v d (iterationsOf g)) (whole.fitted m ds)) e
+    ap (λ (d : Float). bind (fit.iterate m (leftOf g) q v d (iterationsOf g)) (whole.fitted m ds)) e
     ∙ ap (λ (b : Bool). bind (cond b (done (fit.accepted q v (fit.loweredOf (g .damping)))) (trialsLeft m ds g (g .trials) (fit.raised (g .damping)))) (afterTrials m ds g)) (sym t)
 
 pub trial-rejected : (g : Progress) (q : Point) (v damping : Float) (m : Measured) (ds : List Requested) → materialOf (g .current) v ≡ false → damping ≡ fit.raised (g .damping)
@@ -272,17 +274,19 @@ trial-rejected g q v damping m ds t e =
     ap (λ (d : Float). bind (trialsLeft m ds g (g .trials) d) (afterTrials m ds g)) e
     ∙ ap (λ (b : Bool). bind (cond b (done (fit.accepted q v (fit.loweredOf (g .damping)))) (trialsLeft m ds g (g .trials) (fit.raised (g .damping)))) (afterTrials m ds g)) (sym t)
 
-one-less : (n k : ℕ) → k ≡ suc n → 1024 - k ≡ 1023 - n
-one-less n k e = omega arith
-
 seen-more : (c : Point) (v : Float) (s : mesh.Pass) → mesh.seen c v s .evaluations ≡ suc (s .evaluations)
 unfolding mesh.seen
 seen-more c v s = refl
 
-pub look-seen : (g : Progress) (c : Point) (v : Float) (s : Pass) (m : Measured) (ds : List Requested) → g .pass .evaluations < 1024 → passOf s ≡ seenWithin c v (passOf (g .pass))
+-- after a look the poll has as many evaluations left, whether the look counted or none was left before it
+look-left : (c : Point) (v : Float) (s : mesh.Pass) (k : ℕ) (b : Bool) → ltb (s .evaluations) 1024 ≡ b → k ≡ (cond b (mesh.seen c v s) s) .evaluations
+    → 1024 - k ≡ 1023 - s .evaluations
+look-left c v s k true t e = let more = seen-more c v s in omega arith
+look-left c v s k false t e = let beyond = ltb-false (s .evaluations) 1024 t in omega arith
+
+pub look-seen : (g : Progress) (c : Point) (v : Float) (s : Pass) (m : Measured) (ds : List Requested) → passOf s ≡ seenWithin c v (passOf (g .pass))
     → pollAt (withPass g s) m ds ≡ afterLook m ds g c v
-look-seen g c v s m ds h e =
-    let is : passOf s ≡ mesh.seen c v (passOf (g .pass)) = e ∙ simp (lt-ltb (g .pass .evaluations) 1024 h) in
-    let count : s .evaluations ≡ suc (g .pass .evaluations) = ap (λ (x : mesh.Pass). x .evaluations) is ∙ seen-more c v (passOf (g .pass)) in
-    ap (λ (n : ℕ). bind (mesh.poll m n (passOf s)) (afterPoll m ds g)) (one-less (g .pass .evaluations) (s .evaluations) count)
-    ∙ ap (λ (x : mesh.Pass). bind (mesh.poll m (1023 - g .pass .evaluations) x) (afterPoll m ds g)) is
+look-seen g c v s m ds e =
+    let count : 1024 - s .evaluations ≡ 1023 - g .pass .evaluations = look-left c v (passOf (g .pass)) (s .evaluations) (ltb (g .pass .evaluations) 1024) refl (ap (λ (x : mesh.Pass). x .evaluations) e) in
+    ap (λ (n : ℕ). bind (mesh.poll m n (passOf s)) (afterPoll m ds g)) count
+    ∙ ap (λ (x : mesh.Pass). bind (mesh.poll m (1023 - g .pass .evaluations) x) (afterPoll m ds g)) e

@@ -8,8 +8,7 @@ use objective_mesh::Pass;
 use objective_mesh::Poll;
 use objective_mesh::Turn;
 ghost use mathlib.Core.Path.{_≡_};
-ghost use Prim.Native.Nat.{_≤_, _<_};
-ghost use Rattle.fitting.specs.Meaning.{Moves, AfterRows, foundAt, flatAt, iterationAt, candidateAt, polledAt, pollAt, startAt, afterTrial, afterLook};
+ghost use Rattle.fitting.specs.Meaning.{leftOf, Moves, AfterRows, Blank, foundAt, flatAt, iterationAt, candidateAt, polledAt, pollAt, startAt, afterTrial, afterLook};
 ghost use Rattle.fitting.specs.declared.Stage.the-variants as StageOf;
 
 // How many iterations a fit has at the most, and how many damping trials each.
@@ -58,7 +57,7 @@ pub struct Moved {
 
 // The fit has ended: the evaluation at it comes next.
 fn found(g: Progress) -> Moved
-    ensures { λ r. ⌜ (g .left ≤ 100 → Moves r (foundAt g)) ⌝ }
+    ensures { λ r. ⌜ Moves (g .left) r (foundAt g) ⌝ }
 {
     Moved {
         progress: g,
@@ -68,7 +67,7 @@ fn found(g: Progress) -> Moved
 
 // The fit has ended by its gradient.
 fn found_flat(g: Progress) -> Moved
-    ensures { λ r. ⌜ (g .left ≤ 100 → Moves r (flatAt g)) ⌝ }
+    ensures { λ r. ⌜ Moves (g .left) r (flatAt g) ⌝ }
 {
     found(Progress {
         convergence: Convergence::ScaledGradient,
@@ -77,9 +76,19 @@ fn found_flat(g: Progress) -> Moved
     })
 }
 
+// The iterations left, of which there are 100 at the most.
+fn iterations_left(g: Progress) -> usize
+    ensures { λ r. ⌜ r ≡ leftOf g ⌝ }
+{
+    if g.left > MAX_ITERATIONS {
+        return MAX_ITERATIONS;
+    }
+    g.left
+}
+
 // The next iteration, or, with none left, the final evaluation.
 fn next_iteration(g: Progress) -> Moved
-    ensures { λ r. ⌜ (g .left ≤ 100 → Moves r (iterationAt g)) ⌝ }
+    ensures { λ r. ⌜ Moves (g .left) r (iterationAt g) ⌝ }
 {
     if g.left == 0 {
         return Moved {
@@ -87,7 +96,7 @@ fn next_iteration(g: Progress) -> Moved
             wait: Wait::Evaluation(Stage::Final),
         };
     }
-    let left = g.left - 1;
+    let left = iterations_left(g) - 1;
     Moved {
         progress: Progress { left, ..g },
         wait: Wait::Evaluation(Stage::Iteration),
@@ -96,7 +105,7 @@ fn next_iteration(g: Progress) -> Moved
 
 // The next candidate of the iteration, or, with no trial left, the final evaluation.
 fn next_candidate(g: Progress) -> Moved
-    ensures { λ r. ⌜ (g .left ≤ 100 → Moves r (candidateAt g)) ⌝ }
+    ensures { λ r. ⌜ Moves (g .left) r (candidateAt g) ⌝ }
 {
     let p = g.point;
     let e = g.evaluation;
@@ -119,7 +128,7 @@ fn next_candidate(g: Progress) -> Moved
 
 // The poll has ended.
 fn polled(g: Progress, r: Poll) -> Moved
-    ensures { λ s. ⌜ (g .left ≤ 100 → Moves s (polledAt g r)) ⌝ }
+    ensures { λ s. ⌜ Moves (g .left) s (polledAt g r) ⌝ }
 {
     let point = r.point;
     let convergence = r.convergence;
@@ -133,7 +142,7 @@ fn polled(g: Progress, r: Poll) -> Moved
 
 // The next candidate of the poll, or its end.
 fn next_look(g: Progress) -> Moved
-    ensures { λ r. ⌜ (g .left ≤ 100 → Moves r (pollAt g)) ⌝ }
+    ensures { λ r. ⌜ Moves (g .left) r (pollAt g) ⌝ }
 {
     let pass = g.pass;
     if pass.evaluations >= objective_mesh::MAP_OBJECTIVE_MAX_POLL_EVALUATIONS {
@@ -152,7 +161,7 @@ fn next_look(g: Progress) -> Moved
 
 // What a fit holds before its first objective is there.
 pub fn blank(entered: Point) -> Progress
-    ensures { λ r. ⌜ (r .point ≡ entered) × (r .left ≡ 100) ⌝ }
+    ensures { λ r. ⌜ Blank entered r ⌝ }
 {
     let none = Symmetric2 {
         a00: 0.0,
@@ -185,7 +194,7 @@ pub fn blank(entered: Point) -> Progress
 
 // The objective at the entered point is there.
 pub fn start(entered: Point, value: f64) -> Moved
-    ensures { λ r. ⌜ Moves r (startAt entered value) ⌝ }
+    ensures { λ r. ⌜ Moves 100 r (startAt entered value) ⌝ }
 {
     let g = blank(entered);
     next_iteration(Progress {
@@ -198,7 +207,7 @@ pub fn start(entered: Point, value: f64) -> Moved
 
 // The evaluation of an iteration is there.
 pub fn after_iteration(g: Progress, e: Evaluation) -> Moved
-    ensures { λ r. ⌜ (g .left ≤ 100 → AfterRows r g StageOf.Iteration e) ⌝ }
+    ensures { λ r. ⌜ AfterRows g r StageOf.Iteration e ⌝ }
 {
     if map_fit::is_flat(e) {
         return found_flat(g);
@@ -212,7 +221,7 @@ pub fn after_iteration(g: Progress, e: Evaluation) -> Moved
 
 // The final evaluation is there.
 pub fn after_final(g: Progress, e: Evaluation) -> Moved
-    ensures { λ r. ⌜ (g .left ≤ 100 → AfterRows r g StageOf.Final e) ⌝ }
+    ensures { λ r. ⌜ AfterRows g r StageOf.Final e ⌝ }
 {
     if map_fit::is_flat(e) {
         return found_flat(g);
@@ -225,7 +234,7 @@ pub fn after_final(g: Progress, e: Evaluation) -> Moved
 
 // The poll's own evaluation is there: it gives the directions.
 pub fn after_mesh(g: Progress, e: Evaluation) -> Moved
-    ensures { λ r. ⌜ (g .left ≤ 100 → AfterRows r g StageOf.Mesh e) ⌝ }
+    ensures { λ r. ⌜ AfterRows g r StageOf.Mesh e ⌝ }
 {
     let p = g.point;
     let information = e.posterior_information;
@@ -235,7 +244,7 @@ pub fn after_mesh(g: Progress, e: Evaluation) -> Moved
 
 // The objective at a candidate of the damping trials is there.
 pub fn after_trial(g: Progress, q: Point, value: f64) -> Moved
-    ensures { λ r. ⌜ (g .left ≤ 100 → Moves r (λ m ds. afterTrial m ds g q value)) ⌝ }
+    ensures { λ r. ⌜ Moves (g .left) r (λ m ds. afterTrial m ds g q value) ⌝ }
 {
     if criteria::objective_improvement_is_material(g.current, value) {
         let damping = map_fit::lowered(g.damping);
@@ -252,7 +261,7 @@ pub fn after_trial(g: Progress, q: Point, value: f64) -> Moved
 
 // The objective at a candidate of the poll is there.
 pub fn after_look(g: Progress, c: Point, value: f64) -> Moved
-    ensures { λ r. ⌜ (g .left ≤ 100 → g .pass .evaluations < 1024 → Moves r (λ m ds. afterLook m ds g c value)) ⌝ }
+    ensures { λ r. ⌜ Moves (g .left) r (λ m ds. afterLook m ds g c value) ⌝ }
 {
     let before = g.pass;
     let pass = objective_mesh::seen(c, value, before);

@@ -59,12 +59,12 @@ module _ (moved : Moved) (t : Turn) where
   pub waits-look : (c : Point) → moved .wait ≡ Wait.Look c → t ≡ asksAt (moved .progress) (Look c) c Distances.Shots → Waits moved t
   waits-look c e a = known _ (Wait.Look c) e a (λ l b n h. look-stands b (moved .progress) n h (l .0) c (l .1))
 
-  pub moved-turns : (k : Continuation) → Waits moved t → Moves moved k → Turns t k
-  moved-turns k w m = record { stands = λ b n h. stands-same (w .turns (m .within) .stands b n h) (m .leads (measuredOf b) (wantedOf b)) }
+  pub moved-turns : (left : ℕ) (k : Continuation) → left ≤ 100 → Waits moved t → Moves left moved k → Turns t k
+  moved-turns left k l w m = record { stands = λ b n h. stands-same (w .turns (m .within l) .stands b n h) (m .leads (measuredOf b) (wantedOf b)) }
 
-  pub rows-turns : (stage : Stage) (g : Progress) (e : Evaluated) → Waits moved t → (g .left ≤ 100 → AfterRows moved g stage e) → Goes stage g e t
+  pub rows-turns : (stage : Stage) (g : Progress) (e : Evaluated) → Waits moved t → AfterRows g moved stage e → Goes stage g e t
   rows-turns stage g e w m = record {
-    turns = λ l b n rows h is. stands-same (w .turns (m l .within) .stands b n h) (m l .leads (measuredOf b) (wantedOf b) rows is);
+    turns = λ l b n rows h is. stands-same (w .turns (m .within l) .stands b n h) (m .leads (measuredOf b) (wantedOf b) rows is);
   }
 
 -- ---- one objective

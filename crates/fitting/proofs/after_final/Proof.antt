@@ -12,17 +12,17 @@ found-flat-requires : tie.Need-found-flat-requires
 found-flat-requires c κs = search needs
 
 returns : tie.Need-returns
-returns c h = record {
+returns c = record {
   leads = λ m ds rows q.
-      c .found-flat .ensures h .leads m ds
+      c .found-flat .ensures .leads m ds
       ∙ final-flat (c .before .before .before .args .g) (c .before .before .before .args .e) m ds rows q (sym (c .before .before .is-flat .ensures) ∙ c .before .if1 .taken);
-  within = c .found-flat .ensures h .within;
+  within = c .found-flat .ensures .within;
 }
 
 returns-2 : tie.Need-returns-2
-returns-2 c h = record {
+returns-2 c = record {
   leads = λ m ds rows q. final-mesh (c .before .before .args .g) (c .before .before .args .e) m ds rows q (sym (c .before .is-flat .ensures) ∙ c .if1 .left);
-  within = h;
+  within = λ h. h;
 }
 
 pub after-final-spec : {M : Type 1} → statement M

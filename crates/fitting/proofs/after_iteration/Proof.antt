@@ -12,22 +12,22 @@ found-flat-requires : tie.Need-found-flat-requires
 found-flat-requires c κs = search needs
 
 returns : tie.Need-returns
-returns c h = record {
+returns c = record {
   leads = λ m ds rows q.
-      c .found-flat .ensures h .leads m ds
+      c .found-flat .ensures .leads m ds
       ∙ iteration-flat (c .before .before .before .args .g) (c .before .before .before .args .e) m ds rows q (sym (c .before .before .is-flat .ensures) ∙ c .before .if1 .taken);
-  within = c .found-flat .ensures h .within;
+  within = c .found-flat .ensures .within;
 }
 
 next-candidate-requires : tie.Need-next-candidate-requires
 next-candidate-requires c κs = search needs
 
 returns-2 : tie.Need-returns-2
-returns-2 c h = record {
+returns-2 c = record {
   leads = λ m ds rows q.
-      c .next-candidate .ensures h .leads m ds
+      c .next-candidate .ensures .leads m ds
       ∙ iteration-trials (c .before .before .before .before .before .args .g) (c .before .before .before .before .before .args .e) m ds rows q (sym (c .before .before .before .before .is-flat .ensures) ∙ c .before .before .before .if1 .left);
-  within = c .next-candidate .ensures h .within;
+  within = c .next-candidate .ensures .within;
 }
 
 pub after-iteration-spec : {M : Type 1} → statement M

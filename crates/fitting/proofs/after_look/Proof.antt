@@ -12,11 +12,11 @@ next-look-requires : tie.Need-next-look-requires
 next-look-requires c κs = search needs
 
 returns : tie.Need-returns
-returns c h l = record {
+returns c = record {
   leads = λ m ds.
-      c .next-look .ensures h .leads m ds
-      ∙ look-seen (c .before .before .before .before .before .args .g) (c .before .before .before .before .before .args .c) (c .before .before .before .before .before .args .value) (c .before .before .before .seen .result) m ds l (c .before .before .before .seen .ensures);
-  within = c .next-look .ensures h .within;
+      c .next-look .ensures .leads m ds
+      ∙ look-seen (c .before .before .before .before .before .args .g) (c .before .before .before .before .before .args .c) (c .before .before .before .before .before .args .value) (c .before .before .before .seen .result) m ds (c .before .before .before .seen .ensures);
+  within = c .next-look .ensures .within;
 }
 
 pub after-look-spec : {M : Type 1} → statement M

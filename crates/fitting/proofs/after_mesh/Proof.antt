@@ -12,11 +12,11 @@ next-look-requires : tie.Need-next-look-requires
 next-look-requires c κs = search needs
 
 returns : tie.Need-returns
-returns c h = record {
+returns c = record {
   leads = λ m ds rows q.
-      c .next-look .ensures h .leads m ds
+      c .next-look .ensures .leads m ds
       ∙ mesh-poll (c .before .before .before .before .before .before .args .g) (c .before .before .before .before .before .before .args .e) m ds rows q (c .before .before .before .first-pass .result) (c .before .before .before .first-pass .ensures);
-  within = c .next-look .ensures h .within;
+  within = c .next-look .ensures .within;
 }
 
 pub after-mesh-spec : {M : Type 1} → statement M

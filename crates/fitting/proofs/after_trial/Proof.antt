@@ -15,12 +15,12 @@ next-iteration-requires : tie.Need-next-iteration-requires
 next-iteration-requires c κs = search needs
 
 returns : tie.Need-returns
-returns c h = record {
+returns c = record {
   leads = λ m ds.
-      c .next-iteration .ensures h .leads m ds
+      c .next-iteration .ensures .leads m ds
       ∙ trial-accepted (c .before .before .before .before .before .before .args .g) (c .before .before .before .before .before .before .args .q) (c .before .before .before .before .before .before .args .value) (c .before .before .before .lowered .result) m ds
       (sym (c .before .before .before .before .before .objective-improvement-is-material .ensures) ∙ c .before .before .before .before .if1 .taken) (c .before .before .before .lowered .ensures);
-  within = c .next-iteration .ensures h .within;
+  within = c .next-iteration .ensures .within;
 }
 
 raised-requires : tie.Need-raised-requires
@@ -30,12 +30,12 @@ next-candidate-requires : tie.Need-next-candidate-requires
 next-candidate-requires c κs = search needs
 
 returns-2 : tie.Need-returns-2
-returns-2 c h = record {
+returns-2 c = record {
   leads = λ m ds.
-      c .next-candidate .ensures h .leads m ds
+      c .next-candidate .ensures .leads m ds
       ∙ trial-rejected (c .before .before .before .before .before .before .before .args .g) (c .before .before .before .before .before .before .before .args .q) (c .before .before .before .before .before .before .before .args .value) (c .before .before .before .before .raised .result) m ds
       (sym (c .before .before .before .before .before .before .objective-improvement-is-material .ensures) ∙ c .before .before .before .before .before .if1 .left) (c .before .before .before .before .raised .ensures);
-  within = c .next-candidate .ensures h .within;
+  within = c .next-candidate .ensures .within;
 }
 
 pub after-trial-spec : {M : Type 1} → statement M

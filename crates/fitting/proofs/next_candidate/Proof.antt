@@ -15,16 +15,16 @@ enum-told : tie.Need-enum-told
 enum-told c = search needs
 
 returns : tie.Need-returns
-returns c h = record {
+returns c = record {
   leads = λ m ds.
       candidate-next (c .before .before .before .before .before .before .before .before .before .args .g) _ _ _ m ds (sym (c .before .before .before .before .next .given .1) ∙ c .before .before .before .before .before .before .next-trial .ensures);
-  within = h;
+  within = λ h. h;
 }
 
 returns-2 : tie.Need-returns-2
-returns-2 c h = record {
+returns-2 c = record {
   leads = λ m ds. candidate-none (c .before .before .before .before .before .args .g) m ds (sym (c .enum-told .given .1) ∙ c .before .before .next-trial .ensures);
-  within = h;
+  within = λ h. h;
 }
 
 pub next-candidate-spec : {M : Type 1} → statement M

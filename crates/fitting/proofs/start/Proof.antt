@@ -1,7 +1,6 @@
 -- `start`: the first of a hundred iterations.
 use mathlib.Core.Path.{_∙_, ap}
 use borrow.Author.Needs.{needs}
-use native.Mathlib.Omega.{arith}
 use Rattle.definition.specs.Constants.{firstDamping}
 use Rattle.definition.specs.Run.{bind}
 use Rattle.definition.specs.Fit.{iterate}
@@ -18,8 +17,8 @@ next-iteration-requires c κs = search needs
 
 returns : tie.Need-returns
 returns c = record {
-  leads = λ m ds. c .next-iteration .ensures (omega arith) .leads m ds ∙ ap (λ (p : Point). bind (iterate m 100 p (c .before .before .before .before .before .args .value) firstDamping 0) (fitted m ds)) (c .before .before .before .before .blank .ensures .0);
-  within = c .next-iteration .ensures (omega arith) .within;
+  leads = λ m ds. c .next-iteration .ensures .leads m ds ∙ ap (λ (p : Point). bind (iterate m 100 p (c .before .before .before .before .before .args .value) firstDamping 0) (fitted m ds)) (c .before .before .before .before .blank .ensures .point);
+  within = c .next-iteration .ensures .within;
 }
 
 pub start-spec : {M : Type 1} → statement M

@@ -1,5 +1,6 @@
 -- `started`: by whether there is a value.
 use mathlib.Core.Path.{ap}
+use native.Mathlib.Omega.{arith}
 use Rattle.fitting.specs.Meaning.{startAt}
 use Rattle.session.specs.Meaning.{valueSays}
 use Rattle.session.proofs.Turns.{refused-turns, summed-turns, moved-turns}
@@ -36,7 +37,7 @@ returns-2 c = record { turns = refused-turns (c .before .before .before .args .v
 
 returns-3 : tie.Need-returns-3
 returns-3 c =
-    record { turns = summed-turns (c .before .before .before .before .before .args .value) (c .waits .result) (λ m ds x. startAt (c .before .before .before .before .before .args .entered) x m ds) _ (c .before .before .before .value2 .given .1) (moved-turns (c .before .start .result) (c .waits .result) _ (c .waits .ensures) (c .before .start .ensures)) }
+    record { turns = summed-turns (c .before .before .before .before .before .args .value) (c .waits .result) (λ m ds x. startAt (c .before .before .before .before .before .args .entered) x m ds) _ (c .before .before .before .value2 .given .1) (moved-turns (c .before .start .result) (c .waits .result) 100 _ (omega arith) (c .waits .ensures) (c .before .start .ensures)) }
 
 pub started-spec : {M : Type 1} → statement M
 started-spec = tie.close (tie.spec enum-known-value stops-requires enum-told stops-requires-2 enum-known-value-2 start-requires waits-requires returns returns-2 returns-3)
