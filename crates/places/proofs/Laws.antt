@@ -1,11 +1,17 @@
--- Lists with one put in or taken out, read place by place. Assumes nothing.
-use Prim.Native.Nat.{ℕ, zero, suc, _≤_, _<_}
-use mathlib.Core.Path.{_≡_, refl, ap}
+-- Lists with one put in or taken out, read place by place, and the arrays over which they are laid. Assumes nothing.
+use Prim.Native.Nat.{ℕ, zero, suc, _≤_, _<_, _+_, _-_}
+use mathlib.Core.Path.{_≡_, refl, ap, _∙_}
 use mathlib.Core.List.{List, [], _∷_}
 use native.Mathlib.Nat.{not-suc-le-zero, le-of-suc-le-suc}
-use lib.ListN.{length, take, getD, set}
+use native.Mathlib.Omega.{arith}
+use borrow.Author.Tests.{lt-ltb, le-ltb, le-leb, lt-leb}
+use lib.Dec.{leb, ltb}
+use lib.Ieee.{Float}
+use lib.ListN.{length, take, getD, set, length-take}
 use Rattle.definition.specs.Lists.{insertAt, removeAt}
 use Rattle.likelihood.specs.Arrays.{over}
+use Rattle.likelihood.specs.Laws.{over-take}
+use Rattle.places.specs.Places.{insertedOf, removedOf}
 
 module _ {A : Type 0} where
   pub insert-length : (a : A) (l : List A) (j : ℕ) → length (insertAt j a l) ≡ suc (length l)
@@ -63,3 +69,44 @@ module _ {A : Type 0} where
   set-past [] i x h = refl
   set-past (y ∷ l) zero x h = absurd (not-suc-le-zero h)
   set-past (y ∷ l) (suc i) x h = ap (λ (r : List A). y ∷ r) (set-past l i x (le-of-suc-le-suc h))
+
+-- ---- the arrays with one put in or taken out
+
+module _ (n i : ℕ) (old : List Float) where
+  module _ (x : Float) where
+    pub inserted-is : i ≤ n → n < 64 → insertedOf n i x old ≡ over (insertAt i x (take n old)) old
+    unfolding insertedOf
+    inserted-is g h = simp (le-leb i n g, lt-ltb n 64 h)
+
+    pub inserted-beyond : n < i → insertedOf n i x old ≡ old
+    unfolding insertedOf
+    inserted-beyond h = simp (lt-leb i n h)
+
+    pub inserted-full : i ≤ n → 64 ≤ n → insertedOf n i x old ≡ old
+    unfolding insertedOf
+    inserted-full g h = simp (le-leb i n g, le-ltb n 64 h)
+
+    -- the places in use
+    pub inserted-places : length old ≡ 64 → i ≤ n → n < 64 → take (n + 1) (insertedOf n i x old) ≡ insertAt i x (take n old)
+    inserted-places l g h =
+        let t = length-take n old in
+        let m = insert-length x (take n old) i in
+        ap (take (n + 1)) (inserted-is g h) ∙ over-take (insertAt i x (take n old)) old (n + 1) (omega arith) (omega arith)
+
+  pub removed-is : i < n → n ≤ 64 → removedOf n i old ≡ over (removeAt i (take n old)) old
+  unfolding removedOf
+  removed-is g h = simp (lt-ltb i n g, le-leb n 64 h)
+
+  pub removed-beyond : n ≤ i → removedOf n i old ≡ old
+  unfolding removedOf
+  removed-beyond h = simp (le-ltb i n h)
+
+  pub removed-full : i < n → 64 < n → removedOf n i old ≡ old
+  unfolding removedOf
+  removed-full g h = simp (lt-ltb i n g, lt-leb n 64 h)
+
+  pub removed-places : length old ≡ 64 → i < n → n ≤ 64 → take (n - 1) (removedOf n i old) ≡ removeAt i (take n old)
+  removed-places l g h =
+      let t = length-take n old in
+      let m = remove-length (take n old) i (omega arith) in
+      ap (take (n - 1)) (removed-is g h) ∙ over-take (removeAt i (take n old)) old (n - 1) (omega arith) (omega arith)

@@ -1,12 +1,11 @@
 // An entry put in, taken out or exchanged in the first places of an array. Places are counted from 0.
 ghost use mathlib.Core.Path.{_≡_};
-ghost use Prim.Native.Nat.{_≤_, _<_, _+_, _-_};
-ghost use lib.ListN.{take, set};
-ghost use Rattle.definition.specs.Lists.{insertAt, removeAt};
+ghost use lib.ListN.{set};
+ghost use Rattle.places.specs.Places.{insertedOf, removedOf};
 
 // The first n with x put in at the place i, later ones moving up; the array as it was, where i is beyond them or there is no room.
 pub fn inserted(old: [f64; 64], n: usize, i: usize, x: f64) -> [f64; 64]
-    ensures { λ r. ⌜ (i ≤ n → n < 64 → take (n + 1) r ≡ insertAt i x (take n old)) × (n < i → r ≡ old) × (64 ≤ n → r ≡ old) ⌝ }
+    ensures { λ r. ⌜ r ≡ insertedOf n i x old ⌝ }
 {
     if n < i {
         return old;
@@ -28,7 +27,7 @@ pub fn inserted(old: [f64; 64], n: usize, i: usize, x: f64) -> [f64; 64]
 
 // The first n without the one at the place i; the array as it was, where there is none or n is beyond the array.
 pub fn removed(old: [f64; 64], n: usize, i: usize) -> [f64; 64]
-    ensures { λ r. ⌜ (i < n → n ≤ 64 → take (n - 1) r ≡ removeAt i (take n old)) × (n ≤ i → r ≡ old) × (64 < n → r ≡ old) ⌝ }
+    ensures { λ r. ⌜ r ≡ removedOf n i old ⌝ }
 {
     if n <= i {
         return old;

@@ -19,6 +19,8 @@ use Rattle.definition.specs.Whole.{Edit, putIn, takeOut, exchange, placed, edit
 use Rattle.definition.specs.declared.Point.{Point}
 use Rattle.definition.specs.declared.Row.{Row}
 use Rattle.fitting.specs.Meaning.{fitOf}
+use Rattle.places.specs.Places.{insertedOf, removedOf}
+use Rattle.places.proofs.Laws.{inserted-places, removed-places}
 use Rattle.report.specs.Places.{requestedAt}
 use Rattle.session.specs.Meaning.{requestedOf, rowsAt, measuredOf, wantedOf, predictedOf, baselineOf, finishedOf, State, asking, standing, over as ended, state, stateAt, withinOf, either}
 use Rattle.session.specs.Reading.{reportIn, standsIn, BandsCount}
@@ -75,18 +77,18 @@ module _ (a b : Bool) where
   right-of t = and-r a b t
 
 module _ (old r : List Float) (n i j : ℕ) (x : Float) (at : j ≡ i - 1) where
-  pub put-places : (j ≤ n → n < 64 → take (n + 1) r ≡ insertAt j x (take n old)) → T (leb 1 i && leb i (n + 1)) → T (ltb n 64) → take (suc n) r ≡ insertAt (i - 1) x (take n old)
-  put-places e p h =
+  pub put-places : length old ≡ 64 → r ≡ insertedOf n j x old → T (leb 1 i && leb i (n + 1)) → T (ltb n 64) → take (suc n) r ≡ insertAt (i - 1) x (take n old)
+  put-places l e p h =
       let lo = leb→le 1 i (left-of (leb 1 i) (leb i (n + 1)) p) in
       let hi = leb→le i (n + 1) (right-of (leb 1 i) (leb i (n + 1)) p) in
       let room = ltb→lt n 64 h in
-      ap (λ (m : ℕ). take m r) (sym (add-one n)) ∙ e (omega arith) room ∙ ap (λ (m : ℕ). insertAt m x (take n old)) at
+      ap (λ (m : ℕ). take m r) (sym (add-one n)) ∙ ap (take (n + 1)) e ∙ inserted-places n j old x l (omega arith) room ∙ ap (λ (m : ℕ). insertAt m x (take n old)) at
 
-  pub took-places : (j < n → n ≤ 64 → take (n - 1) r ≡ removeAt j (take n old)) → n ≤ 64 → T (leb 1 i && leb i n) → take (n - 1) r ≡ removeAt (i - 1) (take n old)
-  took-places e h p =
+  pub took-places : length old ≡ 64 → r ≡ removedOf n j old → n ≤ 64 → T (leb 1 i && leb i n) → take (n - 1) r ≡ removeAt (i - 1) (take n old)
+  took-places l e h p =
       let lo = leb→le 1 i (left-of (leb 1 i) (leb i n) p) in
       let hi = leb→le i n (right-of (leb 1 i) (leb i n) p) in
-      e (omega arith) h ∙ ap (λ (m : ℕ). removeAt m (take n old)) at
+      ap (take (n - 1)) e ∙ removed-places n j old l (omega arith) h ∙ ap (λ (m : ℕ). removeAt m (take n old)) at
 
   pub set-places : r ≡ set old j x → T (leb 1 i && leb i n) → take n r ≡ set (take n old) (i - 1) x
   set-places e p =

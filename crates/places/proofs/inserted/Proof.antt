@@ -1,15 +1,16 @@
 -- `inserted`: below `k` the array has the places of the longer list, and `carried` is the next of it.
-use Prim.Native.Nat.{suc, _≤_, _<_, _+_, _-_}
-use mathlib.Core.Path.{_≡_, refl, sym, _∙_}
+use Prim.Native.Nat.{ℕ, suc, _≤_, _<_, _+_, _-_}
+use mathlib.Core.Path.{_≡_, sym, ap, _∙_}
+use mathlib.Core.List.{List}
 use native.Mathlib.Numerals.{add-one}
 use native.Mathlib.Omega.{arith}
 use borrow.Author.Needs.{needs}
 use lib.ListN.{length, take, getD, length-set, length-take}
-use lib.Ieee.{nan}
+use lib.Ieee.{Float, nan}
 use Rattle.definition.specs.Lists.{insertAt}
 use Rattle.likelihood.specs.Arrays.{over}
-use Rattle.likelihood.specs.Laws.{over-suc, over-past, over-take}
-use Rattle.places.proofs.Laws.{insert-length, insert-start, insert-at, insert-past, insert-take}
+use Rattle.likelihood.specs.Laws.{over-suc, over-past}
+use Rattle.places.proofs.Laws.{insert-length, insert-start, insert-at, insert-past, insert-take, inserted-is, inserted-beyond, inserted-full}
 use Rattle.places.proofs.inserted.Statement.{statement}
 use Rattle.places.proofs.inserted.Tie as tie
 
@@ -21,10 +22,10 @@ abbrev μ-loop : tie.MeasureT-loop
 μ-loop n i x a₀ carried₀ k₀ a carried k = (n + 1) - k
 
 returns : tie.Need-returns Inv-loop μ-loop
-returns c = (λ g h. absurd (omega arith), λ g. refl, λ g. refl)
+returns c = let args = c .before .args in sym (inserted-beyond (args .n) (args .i) (args .old) (args .x) (omega arith))
 
 returns-2 : tie.Need-returns-2 Inv-loop μ-loop
-returns-2 c = (λ g h. absurd (omega arith), λ g. refl, λ g. refl)
+returns-2 c = let args = c .before .before .args in sym (inserted-full (args .n) (args .i) (args .old) (args .x) (omega arith) (omega arith))
 
 loop-holds : tie.Need-loop-holds Inv-loop μ-loop
 loop-holds c =
@@ -78,12 +79,10 @@ returns-3 c =
     let longer = insertAt (args .i) (args .x) old in
     let m = insert-length (args .x) old (args .i) in
     let t = length-take k longer in
-    let e : args .n + 1 ≡ k = omega arith in
-    let f : k ≡ suc (args .n) = omega arith in (
-      λ g u. rw (e, h .4) (over-take (take k longer) old k (omega arith) (omega arith) ∙ rw f (insert-take (args .x) old (args .i) (args .n) (omega arith) (omega arith))),
-      λ g. absurd (omega arith),
-      λ g. absurd (omega arith),
-    )
+    let f : k ≡ suc (args .n) = omega arith in
+    h .4
+    ∙ ap (λ (l : List Float). over l old) (ap (λ (j : ℕ). take j longer) f ∙ insert-take (args .x) old (args .i) (args .n) (omega arith) (omega arith))
+    ∙ sym (inserted-is (args .n) (args .i) old (args .x) (omega arith) (omega arith))
 
 pub inserted-spec : {M : Type 1} → statement M
 inserted-spec =

@@ -1,6 +1,7 @@
 -- `removed`: below `to` the array has the places of the shorter list.
-use Prim.Native.Nat.{suc, _≤_, _<_, _-_}
-use mathlib.Core.Path.{_≡_, refl, sym, ap, _∙_}
+use Prim.Native.Nat.{ℕ, suc, _≤_, _<_, _-_}
+use mathlib.Core.Path.{_≡_, sym, ap, _∙_}
+use mathlib.Core.List.{List}
 use native.Mathlib.Numerals.{add-one}
 use native.Mathlib.Omega.{arith}
 use borrow.Author.Needs.{needs}
@@ -8,8 +9,8 @@ use lib.ListN.{length, take, getD, set, length-set, length-take}
 use lib.Ieee.{Float, nan}
 use Rattle.definition.specs.Lists.{removeAt}
 use Rattle.likelihood.specs.Arrays.{over}
-use Rattle.likelihood.specs.Laws.{over-suc, over-past, over-take}
-use Rattle.places.proofs.Laws.{remove-length, remove-start, remove-past, remove-take}
+use Rattle.likelihood.specs.Laws.{over-suc, over-past}
+use Rattle.places.proofs.Laws.{remove-length, remove-start, remove-past, remove-take, removed-is, removed-beyond, removed-full}
 use Rattle.places.proofs.removed.Statement.{statement}
 use Rattle.places.proofs.removed.Tie as tie
 
@@ -20,10 +21,10 @@ abbrev μ-loop : tie.MeasureT-loop
 μ-loop n i a₀ to₀ a to = (n - 1) - to
 
 returns : tie.Need-returns Inv-loop μ-loop
-returns c = (λ g h. absurd (omega arith), λ g. refl, λ g. refl)
+returns c = let args = c .before .args in sym (removed-beyond (args .n) (args .i) (args .old) (omega arith))
 
 returns-2 : tie.Need-returns-2 Inv-loop μ-loop
-returns-2 c = (λ g h. absurd (omega arith), λ g. refl, λ g. refl)
+returns-2 c = let args = c .before .before .args in sym (removed-full (args .n) (args .i) (args .old) (omega arith) (omega arith))
 
 loop-holds : tie.Need-loop-holds Inv-loop μ-loop
 loop-holds c =
@@ -81,12 +82,10 @@ returns-3 c =
     let shorter = removeAt (args .i) old in
     let m = remove-length old (args .i) (omega arith) in
     let t = length-take to shorter in
-    let e : args .n - 1 ≡ to = omega arith in
-    let f : args .n ≡ suc to = omega arith in (
-      λ g u. rw (e, h .4, f) (over-take (take to shorter) old to (omega arith) (omega arith) ∙ remove-take old (args .i) to (omega arith) (omega arith)),
-      λ g. absurd (omega arith),
-      λ g. absurd (omega arith),
-    )
+    let f : suc to ≡ args .n = omega arith in
+    h .4
+    ∙ ap (λ (l : List Float). over l old) (remove-take old (args .i) to (omega arith) (omega arith) ∙ ap (λ (j : ℕ). removeAt (args .i) (take j old)) f)
+    ∙ sym (removed-is (args .n) (args .i) old (omega arith) (omega arith))
 
 pub removed-spec : {M : Type 1} → statement M
 removed-spec =

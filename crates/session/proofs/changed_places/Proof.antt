@@ -2,7 +2,7 @@
 use borrow.Author.Needs.{needs}
 use mathlib.Core.Path.{_≡_, sym, subst}
 use lib.Dec.{T}
-use lib.ListN.{take}
+use lib.ListN.{length, take}
 use Rattle.definition.specs.Whole.{placed, editedNumbers}
 use Rattle.session.specs.Changing.{editOf, sizeAfter, roomy}
 use Rattle.session.proofs.ChangeLaws.{put-places, took-places, set-places}
@@ -36,13 +36,16 @@ index-requires-3 c κs = search needs
 exchanged-requires : tie.Need-exchanged-requires
 exchanged-requires c κs = search needs
 
+long-old : (c : tie.Start) → length (c .args .old) ≡ 64
+long-old c = search needs
+
 returns : tie.Need-returns
 returns c =
-    λ h p f. subst (λ x. take (sizeAfter (editOf x) (c .before .before .before .before .before .args .n)) (c .inserted .result) ≡ editedNumbers (editOf x) (c .before .before .before .before .before .args .x) (take (c .before .before .before .before .before .args .n) (c .before .before .before .before .before .args .old))) (sym (c .before .before .before .change .given .1)) (put-places (c .before .before .before .before .before .args .old) _ (c .before .before .before .before .before .args .n) _ _ (c .before .before .before .before .before .args .x) (c .before .index .ensures) (c .inserted .ensures .0) (subst (λ x. T (placed (editOf x) (c .before .before .before .before .before .args .n))) (c .before .before .before .change .given .1) p) (subst (λ x. T (roomy (editOf x) (c .before .before .before .before .before .args .n))) (c .before .before .before .change .given .1) f))
+    λ h p f. subst (λ x. take (sizeAfter (editOf x) (c .before .before .before .before .before .args .n)) (c .inserted .result) ≡ editedNumbers (editOf x) (c .before .before .before .before .before .args .x) (take (c .before .before .before .before .before .args .n) (c .before .before .before .before .before .args .old))) (sym (c .before .before .before .change .given .1)) (put-places (c .before .before .before .before .before .args .old) _ (c .before .before .before .before .before .args .n) _ _ (c .before .before .before .before .before .args .x) (c .before .index .ensures) (long-old (c .before .before .before .before .before)) (c .inserted .ensures) (subst (λ x. T (placed (editOf x) (c .before .before .before .before .before .args .n))) (c .before .before .before .change .given .1) p) (subst (λ x. T (roomy (editOf x) (c .before .before .before .before .before .args .n))) (c .before .before .before .change .given .1) f))
 
 returns-2 : tie.Need-returns-2
 returns-2 c =
-    λ h p f. subst (λ x. take (sizeAfter (editOf x) (c .before .before .before .before .before .args .n)) (c .removed .result) ≡ editedNumbers (editOf x) (c .before .before .before .before .before .args .x) (take (c .before .before .before .before .before .args .n) (c .before .before .before .before .before .args .old))) (sym (c .before .before .before .change2 .given .1)) (took-places (c .before .before .before .before .before .args .old) _ (c .before .before .before .before .before .args .n) _ _ (c .before .before .before .before .before .args .x) (c .before .index2 .ensures) (c .removed .ensures .0) h (subst (λ x. T (placed (editOf x) (c .before .before .before .before .before .args .n))) (c .before .before .before .change2 .given .1) p))
+    λ h p f. subst (λ x. take (sizeAfter (editOf x) (c .before .before .before .before .before .args .n)) (c .removed .result) ≡ editedNumbers (editOf x) (c .before .before .before .before .before .args .x) (take (c .before .before .before .before .before .args .n) (c .before .before .before .before .before .args .old))) (sym (c .before .before .before .change2 .given .1)) (took-places (c .before .before .before .before .before .args .old) _ (c .before .before .before .before .before .args .n) _ _ (c .before .before .before .before .before .args .x) (c .before .index2 .ensures) (long-old (c .before .before .before .before .before)) (c .removed .ensures) h (subst (λ x. T (placed (editOf x) (c .before .before .before .before .before .args .n))) (c .before .before .before .change2 .given .1) p))
 
 returns-3 : tie.Need-returns-3
 returns-3 c =
