@@ -1,7 +1,9 @@
 -- The texts of a session's answers: by what an answer says, and by the report that stands.
+use Prim.Native.Nat.{_≤_}
 use mathlib.Core.Bool.{Bool, true, false}
-use mathlib.Core.List.{List, []}
+use mathlib.Core.List.{List, [], _∷_, _++_}
 use mathlib.Core.Option.{Option, none, some}
+use lib.ListN.{length}
 use Rattle.definition.specs.Summary.{Band, Report}
 use Rattle.report.specs.Report.{Results}
 use Rattle.session.specs.Meaning.{Kind, ofShots, ofDistances, ofNew, Said, question, report, refusal, said}
@@ -32,6 +34,14 @@ saidText (refusal number position) p = declinedText number position
 
 unfoldable pub answerText : Answer → Text
 answerText a = saidText (said (a .step)) (reportIn (state (a .session)))
+
+-- an answer's line: its text and the line feed
+abbrev pub lineText : Answer → Text
+lineText a = answerText a ++ (10 ∷ [])
+
+-- The line of every answer, whatever its step and its session, fits the 32,768 bytes that the program has for it, so that nothing of it is left out. Theorem `answer-fits`.
+abbrev pub AnswerFits : Type 0
+AnswerFits = (a : Answer) → length (lineText a) ≤ 32768
 
 -- ---- the lists of the report that stands, empty where none does
 

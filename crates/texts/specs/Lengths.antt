@@ -1,4 +1,4 @@
--- How long the texts are: a report of at most 64 observations and 64 bands fits 32768 bytes.
+-- How long the texts of the answers are: that of a report with at most 64 observations, 64 bands and 10 warnings has at most 28200 bytes.
 use Prim.Native.Nat.{ℕ, zero, suc, _+_, _*_, _/_, _%_, _≤_}
 use mathlib.Core.Path.{_≡_, refl}
 use mathlib.Core.Bool.{Bool, true, false, cond}
@@ -10,7 +10,10 @@ use lib.Dec.{ltb}
 use lib.ListN.{length, length-append}
 use lib.Ieee.{Float, binary64, toBits}
 use Rattle.interval.specs.declared.GaussianIntervalV1.{GaussianIntervalV1}
-use Rattle.definition.specs.Summary.{Approximation, available, unavailable, Diagnostics, Band, warn}
+use Rattle.definition.specs.Request.{Requested, Measured}
+use Rattle.definition.specs.Fit.{Fit}
+use Rattle.definition.specs.Summary.{Approximation, available, unavailable, Diagnostics, Band, Baseline, Report, warn, warningsOf}
+use Rattle.definition.specs.declared.Evaluation.{Evaluation}
 use Rattle.definition.specs.declared.Prior.{Prior}
 use Rattle.definition.specs.declared.Prior.the-variants as Prior
 use Rattle.definition.specs.declared.TruingPriorsV1.{TruingPriorsV1}
@@ -22,14 +25,9 @@ use Rattle.definition.specs.declared.TruingApproximationFailureCodeV1.{TruingAp
 use Rattle.definition.specs.declared.TruingApproximationFailureCodeV1.the-variants as Failure
 use Rattle.definition.specs.declared.TruingUncertaintyWarningCodeV1.{TruingUncertaintyWarningCodeV1}
 use Rattle.definition.specs.declared.TruingUncertaintyWarningCodeV1.the-variants as Warning
-use Rattle.definition.specs.Meaning.{approximationSays}
-use Rattle.summary.specs.Summary.{diagnosticsSays}
-use Rattle.warnings.specs.Warnings.{codes, codesOf}
-use Rattle.warnings.specs.declared.Warnings.{Warnings}
-use Rattle.report.specs.declared.Baseline.{Baseline}
-use Rattle.report.specs.declared.Baseline.the-variants.{Absent, Given}
-use Rattle.report.specs.declared.UncertaintyTruingReportV1.{UncertaintyTruingReportV1}
-use Rattle.report.specs.Report.{Results, seenOf, baselineSays}
+use Rattle.warnings.specs.Warnings.{codes, warningsBy}
+use Rattle.warnings.specs.Laws.{warnings-by}
+use Rattle.report.specs.Report.{Results}
 use Rattle.forms.specs.Numbers.{glyphOf, digitsOf, placesOf, doubleText, countText}
 use Rattle.forms.specs.Words.{bytes}
 use Rattle.texts.specs.Writing.{Text}
@@ -60,7 +58,12 @@ use Rattle.texts.specs.Texts.{
   warningText,
   warningsText,
   reportText,
+  kindName,
+  questionText,
+  declinedText,
 }
+use Rattle.texts.specs.declared.Kind.{Kind}
+use Rattle.texts.specs.declared.Kind.the-variants as Kind
 
 -- ---- numbers
 
@@ -138,11 +141,11 @@ results-length : (results : Results) → length results ≤ 64 → length (resul
 unfolding resultsText
 results-length results h = short _ (omega (arith, map-size resultText 104 result-length results))
 
-baseline-length : (b : Baseline) (entered : Results) → length entered ≤ 64 → length (baselineText (baselineSays b entered)) ≤ 6776
+baseline-length : (b : Option Baseline) → ((x : Baseline) → b ≡ some x → length (x .observations) ≤ 64) → length (baselineText b) ≤ 6776
 unfolding baselineText
-baseline-length Absent entered h = omega arith
-baseline-length (Given b) entered h =
-    short _ (omega (arith, double-length (b .«muzzle_velocity_fps»), double-length (b .«ballistic_coefficient»), double-length (b .«chi_square»), results-length entered h))
+baseline-length none h = omega arith
+baseline-length (some b) h =
+    short _ (omega (arith, double-length (b .entered .mv), double-length (b .entered .bc), double-length (b .chiSquare), results-length (b .observations) (h b refl)))
 
 criterion-length : (c : Option TruingMapConvergenceCriterionV1) → length (orNone criterionName c) ≤ 14
 criterion-length none = omega arith
@@ -234,38 +237,55 @@ codes-length a b c d e f g h i j =
     let l1 = warn b Warning.ObjectiveMeshConvergence l2 in
     omega (arith, warn-length j Warning.PredictionOutsideObservedDomain [], warn-length i Warning.LowEffectiveDegreesOfFreedom l9, warn-length h Warning.IntervalCrossesFitBounds l8, warn-length g Warning.GaussianApproximationUnavailable l7, warn-length f Warning.BcPriorDominated l6, warn-length e Warning.MvPriorDominated l5, warn-length d Warning.IllConditionedData l4, warn-length c Warning.WeakBcSensitivity l3, warn-length b Warning.ObjectiveMeshConvergence l2, warn-length a Warning.OptimizerDidNotConverge l1)
 
-warnings-length : (w : Warnings) → length (warningsText (codesOf w)) ≤ 362
+pub warnings-most : (m : Measured) (f : Fit) (e : Evaluation) (a : Approximation) (d : Diagnostics) (requested : List Requested) → length (warningsOf m f e a d requested) ≤ 10
+unfolding warningsBy
+warnings-most m f e a d requested = rw warnings-by (codes-length _ _ _ _ _ _ _ _ _ _)
+
+warnings-length : (codes : List TruingUncertaintyWarningCodeV1) → length codes ≤ 10 → length (warningsText codes) ≤ 362
 unfolding warningsText
-warnings-length w = short _ (omega (
-  arith,
-  map-size warningText 35 warning-length (codesOf w),
-  codes-length (w .«optimizer_did_not_converge») (w .«objective_mesh_convergence») (w .«weak_bc_sensitivity») (w .«ill_conditioned_data»)
-      (w .«mv_prior_dominated») (w .«bc_prior_dominated») (w .«gaussian_approximation_unavailable») (w .«interval_crosses_fit_bounds»)
-      (w .«low_effective_degrees_of_freedom») (w .«prediction_outside_observed_domain»),
-))
+warnings-length codes h = short _ (omega (arith, map-size warningText 35 warning-length codes))
 
 truth-length : (b : Bool) → length (truthText b) ≤ 3
 truth-length true = omega arith
 truth-length false = omega arith
 
--- ---- the report
+-- ---- the answers
 
-pub report-length : (r : UncertaintyTruingReportV1) (results entered : Results) (bands : List Band) → length results ≤ 64 → length entered ≤ 64 → length bands ≤ 64
-    → length (reportText (seenOf r results entered bands)) ≤ 32768
+-- the lists of a report have no more entries than a session has places, and there are ten warnings
+pub record Bounded (p : Report) : Type 0 where
+  pub results : length (p .observations) ≤ 64
+  pub entered : (b : Baseline) → p .baseline ≡ some b → length (b .observations) ≤ 64
+  pub bands : length (p .bands) ≤ 64
+  pub warnings : length (p .warnings) ≤ 10
+
+pub report-length : (p : Report) → Bounded p → length (reportText p) ≤ 28200
 unfolding reportText
-report-length r results entered bands h k l =
+report-length p h =
     short _ (omega (
       arith,
-      count-length (r .«schema_version»),
-      double-length (r .«map_muzzle_velocity_fps»),
-      double-length (r .«map_ballistic_coefficient»),
-      count-length (r .iterations),
-      truth-length (r .converged),
-      priors-length (r .priors),
-      results-length results h,
-      baseline-length (r .baseline) entered k,
-      diagnostics-length (diagnosticsSays (r .diagnostics)),
-      approximation-length (approximationSays (r .approximation)),
-      bands-length bands l,
-      warnings-length (r .warnings),
+      count-length (p .schemaVersion),
+      double-length (p .point .mv),
+      double-length (p .point .bc),
+      count-length (p .iterations),
+      truth-length (p .isConverged),
+      priors-length (p .priors),
+      results-length (p .observations) (h .results),
+      baseline-length (p .baseline) (h .entered),
+      diagnostics-length (p .diagnostics),
+      approximation-length (p .approximation),
+      bands-length (p .bands) (h .bands),
+      warnings-length (p .warnings) (h .warnings),
     ))
+
+kind-length : (kind : Kind) → length (kindName kind) ≤ 9
+kind-length Kind.Shots = omega arith
+kind-length Kind.Distances = omega arith
+kind-length Kind.New = omega arith
+
+pub question-length : (kind : Kind) (mv bc : Float) → length (questionText kind mv bc) ≤ 55
+unfolding questionText
+question-length kind mv bc = short _ (omega (arith, kind-length kind, double-length mv, double-length bc))
+
+pub declined-length : (n position : ℕ) → length (declinedText n position) ≤ 53
+unfolding declinedText
+declined-length n position = short _ (omega (arith, count-length n, count-length position))
