@@ -10,7 +10,6 @@ use lib.ListN.{length, take}
 use lib.Seq.{take-all}
 use Rattle.definition.specs.Summary.{Band, Report}
 use Rattle.definition.specs.declared.WeightedTruingObservationResultV1.{WeightedTruingObservationResultV1}
-use Rattle.forms.specs.Words.{bytes}
 use Rattle.report.specs.Places.{nth}
 use Rattle.report.specs.Report.{Results, seenOf, baselineSays}
 use Rattle.report.specs.declared.UncertaintyTruingReportV1.{UncertaintyTruingReportV1}

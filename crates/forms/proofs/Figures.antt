@@ -4,8 +4,8 @@ use mathlib.Core.List.{[], _∷_}
 use mathlib.Core.Option.{none, some}
 use lib.Ieee.{Float, nan, binary64, ofBits}
 use Rattle.forms.specs.Numbers.{digitOf, glyphOf, doubleOf, countOf, countText}
-use Rattle.forms.specs.Words.{bytes, nameOf, sessionOf, markOf}
-use Rattle.forms.specs.Lines.{malformed, entered, priorCoefficient, distance, openPlain, drops, missing, given, refused, exchange, requestForm, sessionForm, enteredOf, priorOf, distanceOf, exchangeOf, takeOutOf, formOf}
+use Rattle.words.specs.Words.{bytes}
+use Rattle.forms.specs.Lines.{malformed, entered, priorCoefficient, distance, openPlain, drops, missing, given, refused, exchange, enteredOf, priorOf, distanceOf, exchangeOf, takeOutOf, formOf}
 
 abbrev one : Float
 one = ofBits binary64 0x3ff0_0000_0000_0000
@@ -31,39 +31,39 @@ unfolding doubleOf digitOf
 upper-case = refl
 
 a-point : formOf (bytes "(entered 3ff0000000000000 3ff0000000000000)") ≡ entered one one
-unfolding formOf requestForm enteredOf nameOf doubleOf digitOf
+unfolding formOf enteredOf doubleOf digitOf
 a-point = refl
 
 a-prior : formOf (bytes "(prior coefficient 3ff0000000000000 3ff0000000000000)") ≡ priorCoefficient one one
-unfolding formOf requestForm priorOf nameOf sessionOf markOf doubleOf digitOf
+unfolding formOf priorOf doubleOf digitOf
 a-prior = refl
 
 no-sigma : formOf (bytes "(distance 3ff0000000000000 none)") ≡ distance one none
-unfolding formOf requestForm distanceOf nameOf sessionOf markOf doubleOf digitOf
+unfolding formOf distanceOf doubleOf digitOf
 no-sigma = refl
 
 an-opening : formOf (bytes "(open plain)") ≡ openPlain
-unfolding formOf requestForm nameOf sessionOf markOf
+unfolding formOf
 an-opening = refl
 
 two-blanks : formOf (bytes "(open  plain)") ≡ malformed
-unfolding formOf requestForm nameOf sessionOf markOf
+unfolding formOf
 two-blanks = refl
 
 no-entries : formOf (bytes "(drops)") ≡ drops []
-unfolding formOf sessionForm nameOf sessionOf
+unfolding formOf
 no-entries = refl
 
 two-entries : formOf (bytes "(drops missing 3ff0000000000000)") ≡ drops (missing ∷ given one ∷ [])
-unfolding formOf sessionForm nameOf sessionOf markOf doubleOf digitOf
+unfolding formOf doubleOf digitOf
 two-entries = refl
 
 a-place : formOf (bytes "(exchange 2 3ff0000000000000 3ff0000000000000)") ≡ exchange 2 one (some one)
-unfolding formOf sessionForm exchangeOf nameOf sessionOf markOf doubleOf countOf digitOf
+unfolding formOf exchangeOf doubleOf countOf digitOf
 a-place = refl
 
 leading-zero : formOf (bytes "(take-out 02)") ≡ malformed
-unfolding formOf sessionForm takeOutOf nameOf sessionOf countOf digitOf
+unfolding formOf takeOutOf countOf digitOf
 leading-zero = refl
 
 not-closed : formOf (bytes "(refused") ≡ malformed

@@ -1,4 +1,4 @@
--- A line that is cut into words and read word by word comes to the form that the whole line is: the theorem `line-form`. And a word of more than 22
+-- A line that is cut into words and read word by word comes to the form that the whole line is, its entries up to 65: the theorem `line-form`. And a word of more than 22
 -- bytes spoils a line wherever it stands, so that any other may stand in for it: `long-spoils`, `long-same`. Assumes nothing.
 use Prim.Native.Nat.{ℕ, _-_, _<_}
 use mathlib.Core.Path.{_≡_, refl, sym, ap, _∙_, subst}
@@ -12,7 +12,7 @@ use lib.ListN.{length, take, getD}
 use lib.Seq.{length-take-le}
 use Rattle.forms.specs.declared.Line.{Line}
 use Rattle.forms.specs.Lines.{malformed, putFirst, wordsOf, afterOpen, onFront, beforeClose, ofInner, formOf}
-use Rattle.forms.specs.Reading.{startOf, spoiledOf, feedOf, formIn, feedIf, endOf, endIf, takeOf, readRest, readAll}
+use Rattle.forms.specs.Reading.{startOf, spoiledOf, feedOf, formIn, feedIf, endOf, endIf, takeOf, readRest, readAll, short}
 use Rattle.forms.proofs.Steps.{close-place, feed-long}
 use Rattle.forms.proofs.Track.{feedAll, unsound-form, feed-unsound, words-form}
 
@@ -148,11 +148,11 @@ rest-ends l v (x ∷ ws) =
     subst (λ (k : Line). Ended (readRest k (x ∷ ws)) l (onFront v (closeLast (x ∷ ws)))) (sym (within l v))
     (ended-more (readRest (feedOf l v) (x ∷ ws)) l v (closeLast (x ∷ ws)) (rest-ends (feedOf l v) x ws))
 
-ended-form : (x : Line) (o : Option (List ℕ)) → Ended x startOf (cut o) → formIn x ≡ ofInner o
+ended-form : (x : Line) (o : Option (List ℕ)) → Ended x startOf (cut o) → formIn x ≡ short (ofInner o)
 ended-form x none e = unsound-form x e
 ended-form x (some u) e = ap formIn e ∙ words-form (wordsOf u)
 
-rest-form : (ws : List (List ℕ)) (o : Option (List ℕ)) → Some ws → closeLast ws ≡ cut o → formIn (readRest startOf ws) ≡ ofInner o
+rest-form : (ws : List (List ℕ)) (o : Option (List ℕ)) → Some ws → closeLast ws ≡ cut o → formIn (readRest startOf ws) ≡ short (ofInner o)
 rest-form [] o h e = absurd h
 rest-form (w ∷ ws) o h e = ended-form (readRest startOf (w ∷ ws)) o (subst (Ended (readRest startOf (w ∷ ws)) startOf) e (rest-ends startOf w ws))
 
@@ -197,24 +197,24 @@ other-first c t e = by (eqb c 32) where
   by true = all-unopened [] (wordsOf t) refl
   by false = not-opened c (wordsOf t) e
 
-open-line : (t : List ℕ) → formIn (readAll (wordsOf (40 ∷ t))) ≡ formOf (40 ∷ t)
+open-line : (t : List ℕ) → formIn (readAll (wordsOf (40 ∷ t))) ≡ short (formOf (40 ∷ t))
 unfolding formOf
 open-line t = ap formIn (all-opened (wordsOf t) (words-some t)) ∙ rest-form (wordsOf t) (beforeClose t) (words-some t) (close-words t)
 
-unopened-line : (c : ℕ) (t : List ℕ) → eqb c 40 ≡ false → malformed ≡ formOf (c ∷ t)
+unopened-line : (c : ℕ) (t : List ℕ) → eqb c 40 ≡ false → malformed ≡ short (formOf (c ∷ t))
 unfolding formOf
 unopened-line c t e = rw e
 
-no-line : malformed ≡ formOf []
+no-line : malformed ≡ short (formOf [])
 unfolding formOf
 no-line = refl
 
--- For every line, cutting it into words and reading these one by one gives the form that the line is.
-pub line-form : (s : List ℕ) → formIn (readAll (wordsOf s)) ≡ formOf s
+-- For every line, cutting it into words and reading these one by one gives the form that the line is, of a reply the first 65 entries.
+pub line-form : (s : List ℕ) → formIn (readAll (wordsOf s)) ≡ short (formOf s)
 line-form [] = unsound-form (readAll ([] ∷ [])) (all-unopened [] [] refl) ∙ no-line
 line-form (c ∷ t) = by (eqb c 40) refl where
-  by : (v : Bool) → eqb c 40 ≡ v → formIn (readAll (wordsOf (c ∷ t))) ≡ formOf (c ∷ t)
-  by true e = subst (λ (d : ℕ). formIn (readAll (wordsOf (d ∷ t))) ≡ formOf (d ∷ t)) (sym (eqb-true c 40 e)) (open-line t)
+  by : (v : Bool) → eqb c 40 ≡ v → formIn (readAll (wordsOf (c ∷ t))) ≡ short (formOf (c ∷ t))
+  by true e = subst (λ (d : ℕ). formIn (readAll (wordsOf (d ∷ t))) ≡ short (formOf (d ∷ t))) (sym (eqb-true c 40 e)) (open-line t)
   by false e = unsound-form (readAll (wordsOf (c ∷ t))) (other-first c t e) ∙ unopened-line c t e
 
 -- ---- long words

@@ -10,17 +10,16 @@ use lib.Dec.{eqb}
 use lib.ListN.{length, take, drop, getD, set}
 use lib.Seq.{take-length}
 use lib.Ieee.{Float}
+use Rattle.words.specs.Words.{placeOf, place}
 use Rattle.forms.specs.declared.ReadDouble.{ReadDouble}
 use Rattle.forms.specs.declared.ReadDouble.the-variants as readDouble
 use Rattle.forms.specs.declared.ReadCount.{ReadCount}
 use Rattle.forms.specs.declared.ReadCount.the-variants as readCount
-use Rattle.forms.specs.declared.Name.{Name}
 use Rattle.forms.specs.declared.Reading.{Reading}
 use Rattle.forms.specs.declared.Fields.{Fields}
 use Rattle.forms.specs.declared.Reply.{Reply}
 use Rattle.forms.specs.declared.Line.{Line}
 use Rattle.forms.specs.Numbers.{doubleOf, countOf, saysDouble, saysCount}
-use Rattle.forms.specs.Words.{nameOf}
 use Rattle.forms.specs.Lines.{entryFrom, onFront, afterOpen, beforeClose}
 use Rattle.forms.specs.Reading.{asDouble, asCount, readingOf, spoiledOf, withFieldOf, pushOf, withEntryOf, feedOf, feedIf, endOf, endIf, takeOf}
 
@@ -34,16 +33,16 @@ as-count : (k : ReadCount) → asCount (saysCount k) ≡ k
 as-count readCount.Malformed = refl
 as-count (readCount.Count n) = refl
 
-abbrev made : Name → ReadDouble → ReadCount → Reading
-made x y z = record { name = x; double = y; count = z }
+abbrev made : ℕ → ReadDouble → ReadCount → Reading
+made x y z = record { word = x; double = y; count = z }
 
-pub read-word : (s : List ℕ) (n : Name) (d : ReadDouble) (k : ReadCount) → n ≡ nameOf s → saysDouble d ≡ doubleOf s → saysCount k ≡ countOf s
-    → _≡_ {A = Reading} (record { name = n; double = d; count = k }) (readingOf s)
+pub read-word : (s : List ℕ) (n : ℕ) (d : ReadDouble) (k : ReadCount) → n ≡ placeOf s → saysDouble d ≡ doubleOf s → saysCount k ≡ countOf s
+    → _≡_ {A = Reading} (record { word = n; double = d; count = k }) (readingOf s)
 unfolding readingOf
 read-word s n d k a b c =
-    ap (λ (x : Name). made x d k) a
-    ∙ ap (λ (x : ReadDouble). made (nameOf s) x k) (sym (as-double d) ∙ ap asDouble b)
-    ∙ ap (λ (x : ReadCount). made (nameOf s) (asDouble (doubleOf s)) x) (sym (as-count k) ∙ ap asCount c)
+    ap (λ (x : ℕ). made x d k) a
+    ∙ ap (λ (x : ReadDouble). made (placeOf s) x k) (sym (as-double d) ∙ ap asDouble b)
+    ∙ ap (λ (x : ReadCount). made (placeOf s) (asDouble (doubleOf s)) x) (sym (as-count k) ∙ ap asCount c)
 
 -- ---- the fields
 
@@ -98,7 +97,7 @@ module _ (l : Line) (s : List ℕ) where
       ap (λ (g : Fields). lined (l .sound) g (l .reply)) e ∙ sym (rw (le-ltb 20 (length s) h, eq-eqb (l .fields .n) 0 z))
 
   pub feed-next : (f : Fields) (r : Reply) → length s ≤ 20 → (l .fields .n ≡ 0 → ⊥) → f ≡ withFieldOf (l .fields .n) (l .fields) (readingOf s)
-      → r ≡ withEntryOf (l .reply) (entryFrom (saysDouble (readingOf s .double)) (readingOf s .name))
+      → r ≡ withEntryOf (l .reply) (entryFrom (saysDouble (readingOf s .double)) (eqb (readingOf s .word) (place "missing")))
       → _≡_ {A = Line} (record { sound = l .sound; fields = f; reply = r }) (feedOf l s)
   unfolding feedOf
   feed-next f r h z e g =

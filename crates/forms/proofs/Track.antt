@@ -1,5 +1,6 @@
 -- What a line holds once words are fed to it, and that its form is that of the words: the theorem `words-form`. Assumes nothing.
 use Prim.Native.Nat.{ℕ, suc, _+_, _≤_, _<_, min}
+use Prim.Native.String.{String}
 use mathlib.Core.Path.{_≡_, refl, sym, ap, _∙_, subst}
 use mathlib.Core.Bool.{Bool, true, false, cond, _||_, true≢false}
 use mathlib.Core.List.{List, [], _∷_, _++_, append-assoc, append-nil}
@@ -11,18 +12,13 @@ use lib.Dec.{ltb, leb, eqb, eqb·suc-zero, eqb·suc-suc}
 use lib.ListN.{length, take, getD, set, length-append, length-set}
 use lib.Seq.{take-all, take-suc-set, take-append-le, length-take-le}
 use lib.Ieee.{Float, binary64, ofBits}
-use Rattle.forms.specs.declared.Request.{Request}
-use Rattle.forms.specs.declared.Request.the-variants as request
-use Rattle.forms.specs.declared.Session.{Session}
-use Rattle.forms.specs.declared.Session.the-variants as session
-use Rattle.forms.specs.declared.Name.{Name}
-use Rattle.forms.specs.declared.Name.the-variants as name
+use Rattle.words.specs.Words.{is, words, placeOf, place}
+use Rattle.words.specs.Rule.{named}
 use Rattle.forms.specs.declared.Reading.{Reading}
 use Rattle.forms.specs.declared.Fields.{Fields}
 use Rattle.forms.specs.declared.Reply.{Reply}
 use Rattle.forms.specs.declared.Line.{Line}
 use Rattle.forms.specs.Numbers.{doubleOf, countOf, saysDouble, saysCount}
-use Rattle.forms.specs.Words.{nameOf, sessionOf, markOf}
 use Rattle.forms.specs.Lines.{
   Entry,
   missing,
@@ -30,7 +26,9 @@ use Rattle.forms.specs.Lines.{
   Form,
   malformed,
   drops,
-  sigmaFrom,
+  refused,
+  asked,
+  ifRead,
   sigmaOf,
   entryFrom,
   entryOf,
@@ -38,6 +36,7 @@ use Rattle.forms.specs.Lines.{
   entriesOf,
   enteredOf,
   shotOf,
+  priorBy,
   priorOf,
   distanceOf,
   openOf,
@@ -49,14 +48,11 @@ use Rattle.forms.specs.Lines.{
   with1,
   with2,
   with3,
-  requestForm,
-  sessionForm,
-  namedForm,
   formOfWords,
 }
-use Rattle.forms.specs.Reading.{entryAt, zipEntries, entriesIn, asDouble, asCount, readingOf, blank, startOf, withFieldOf, pushOf, withEntryOf, feedOf, enteredIn, shotIn, priorIn, distanceIn, openIn, putInIn, exchangeIn, takeOutIn, dropsIn, requestIn, sessionIn, namedIn, formIn}
+use Rattle.forms.specs.Reading.{entryAt, zipEntries, entriesIn, asDouble, asCount, readingOf, blank, startOf, withFieldOf, pushOf, withEntryOf, feedOf, doubleIn, countIn, sigmaIn, enteredIn, shotIn, priorIn, distanceIn, openIn, putInIn, exchangeIn, takeOutIn, dropsIn, aloneIn, namedIn, formIn, short}
 use Rattle.forms.proofs.Steps.{field-0, field-1, field-2, field-3, field-4, push-full, push-room, feed-long, feed-first, feed-next}
-use Rattle.forms.proofs.Long.{long, anyLong, words-bad}
+use Rattle.forms.proofs.Long.{long, anyLong, all-0, all-1, all-2, all-3, if-all, words-bad}
 
 -- ---- entries
 
@@ -179,23 +175,24 @@ says-count : (o : Option ℕ) → saysCount (asCount o) ≡ o
 says-count none = refl
 says-count (some n) = refl
 
-double-in : (x : Reading) (s : List ℕ) → x ≡ readingOf s → saysDouble (x .double) ≡ doubleOf s
+double-of : (s : List ℕ) → doubleIn (readingOf s) ≡ doubleOf s
 unfolding readingOf
-double-in x s e = ap (λ (y : Reading). saysDouble (y .double)) e ∙ says-double (doubleOf s)
+double-of s = says-double (doubleOf s)
 
-count-in : (x : Reading) (s : List ℕ) → x ≡ readingOf s → saysCount (x .count) ≡ countOf s
+count-of : (s : List ℕ) → countIn (readingOf s) ≡ countOf s
 unfolding readingOf
-count-in x s e = ap (λ (y : Reading). saysCount (y .count)) e ∙ says-count (countOf s)
+count-of s = says-count (countOf s)
 
-name-in : (x : Reading) (s : List ℕ) → x ≡ readingOf s → x .name ≡ nameOf s
+-- the rule of the table of words, for a word that is read
+word-of : (w : String) → ltb (place w) (length words) ≡ true → (s : List ℕ) → eqb (readingOf s .word) (place w) ≡ is w s
 unfolding readingOf
-name-in x s e = ap (λ (y : Reading). y .name) e
+word-of w h s = named w h s
 
-entry-in : (x : Reading) (s : List ℕ) → x ≡ readingOf s → entryFrom (saysDouble (x .double)) (x .name) ≡ entryOf s
-entry-in x s e = rw (double-in x s e, name-in x s e)
+entry-of : (s : List ℕ) → entryFrom (saysDouble (readingOf s .double)) (eqb (readingOf s .word) (place "missing")) ≡ entryOf s
+entry-of s = rw (double-of s, word-of "missing" refl s)
 
-sigma-in : (x : Reading) (s : List ℕ) → x ≡ readingOf s → sigmaFrom (saysDouble (x .double)) (x .name) ≡ sigmaOf s
-sigma-in x s e = rw (double-in x s e, name-in x s e)
+sigma-of : (s : List ℕ) → sigmaIn (readingOf s) ≡ sigmaOf s
+sigma-of s = rw (double-of s, word-of "none" refl s)
 
 record Tracks (l : Line) (w : List ℕ) (ws : List (List ℕ)) : Type 0 where
   sound : l .sound ≡ true
@@ -204,7 +201,7 @@ record Tracks (l : Line) (w : List ℕ) (ws : List (List ℕ)) : Type 0 where
 
 feed-tracks : (l : Line) (w : List ℕ) (ws : List (List ℕ)) (s : List ℕ) → length s ≤ 20 → Tracks l w ws → Tracks (feedOf l s) w (ws ++ s ∷ [])
 feed-tracks l w ws s h t =
-    let r = withEntryOf (l .reply) (entryFrom (saysDouble (readingOf s .double)) (readingOf s .name)) in
+    let r = withEntryOf (l .reply) (entryFrom (saysDouble (readingOf s .double)) (eqb (readingOf s .word) (place "missing"))) in
     subst (λ (x : Line). Tracks x w (ws ++ s ∷ []))
     (feed-next l s (withFieldOf (l .fields .n) (l .fields) (readingOf s)) r h (λ z. omega (arith, z, t .fields .n)) refl refl)
     (record {
@@ -212,12 +209,12 @@ feed-tracks l w ws s h t =
       fields = field-tells (l .fields) w ws s (t .fields);
       reply =
           subst (Holds r) (sym (entries-snoc ws s))
-          (subst (λ (e : Option Entry). Holds r (behind (entriesOf ws) e)) (entry-in (readingOf s) s refl)
-          (entry-holds (l .reply) (entriesOf ws) (entryFrom (saysDouble (readingOf s .double)) (readingOf s .name)) (t .reply)));
+          (subst (λ (e : Option Entry). Holds r (behind (entriesOf ws) e)) (entry-of s)
+          (entry-holds (l .reply) (entriesOf ws) (entryFrom (saysDouble (readingOf s .double)) (eqb (readingOf s .word) (place "missing"))) (t .reply)));
     })
 
 no-word : blank ≡ readingOf []
-unfolding readingOf nameOf sessionOf markOf doubleOf countOf
+unfolding readingOf placeOf doubleOf countOf
 no-word = refl
 
 first-tracks : (w : List ℕ) → length w ≤ 20 → Tracks (feedOf startOf w) w []
@@ -277,74 +274,128 @@ told n k m e h = by (eqb m k) refl where
   by true f = eq-eqb n (suc k) (omega (arith, e, h, eqb-true m k f))
   by false f = ne-eqb n (suc k) (λ g. eqb-false m k f (omega (arith, e, h, g)))
 
+-- what is kept of a form is the form itself, but of drops
+abbrev Whole : Form → Type 0
+Whole x = short x ≡ x
+
+-- the code's form x is what is kept of p
+record Keeps (x p : Form) : Type 0 where
+  kept : x ≡ short p
+
+still : {x p : Form} → x ≡ p → Whole p → Keeps x p
+still e h = record { kept = e ∙ sym h }
+
+-- the place of the first word decides as the word does
+pick : {u v : Bool} {x y p q : Form} → u ≡ v → Keeps x p → Keeps y q → Keeps (cond u x y) (cond v p q)
+pick {u} {v} {x} {y} {p} {q} e f g = record { kept = ap (λ (b : Bool). cond b x y) e ∙ by v } where
+  by : (b : Bool) → cond b x y ≡ short (cond b p q)
+  by true = f .kept
+  by false = g .kept
+
+whole-if : {A : Type 0} (o : Option A) (f : A → Form) → ((a : A) → Whole (f a)) → Whole (ifRead o f)
+whole-if o f h = if-all Whole refl o f h
+
+whole-prior : (u v : Bool) (x y : Float) → Whole (priorBy u v x y)
+whole-prior true v x y = refl
+whole-prior false true x y = refl
+whole-prior false false x y = refl
+
+whole-open : (v : Bool) → Whole (openOf v)
+whole-open true = refl
+whole-open false = refl
+
 module _ (f : Fields) (w : List ℕ) (ws : List (List ℕ)) (t : Tells f w ws) where
-  request-tells : (r : Request) → requestIn r f ≡ requestForm r ws
-  unfolding requestForm enteredIn shotIn priorIn distanceIn openIn
-  request-tells request.Entered =
-      rw (told (f .n) 2 (length ws) (t .n) (omega arith), double-in (f .second) _ (t .second), double-in (f .third) _ (t .third))
-      (with2-is (λ a b. enteredOf (doubleOf a) (doubleOf b)) ws)
-  request-tells request.Shot =
-      rw (
-        told (f .n) 3 (length ws) (t .n) (omega arith),
-        double-in (f .second) _ (t .second),
-        double-in (f .third) _ (t .third),
-        double-in (f .fourth) _ (t .fourth),
-      )
-      (with3-is (λ a b c. shotOf (doubleOf a) (doubleOf b) (doubleOf c)) ws)
-  request-tells request.Prior =
-      rw (
-        told (f .n) 3 (length ws) (t .n) (omega arith),
-        name-in (f .second) _ (t .second),
-        double-in (f .third) _ (t .third),
-        double-in (f .fourth) _ (t .fourth),
-      )
-      (with3-is (λ a b c. priorOf (nameOf a) (doubleOf b) (doubleOf c)) ws)
-  request-tells request.Distance =
-      rw (told (f .n) 2 (length ws) (t .n) (omega arith), double-in (f .second) _ (t .second), sigma-in (f .third) _ (t .third))
-      (with2-is (λ a b. distanceOf (doubleOf a) (sigmaOf b)) ws)
-  request-tells request.Open =
-      rw (told (f .n) 1 (length ws) (t .n) (omega arith), name-in (f .second) _ (t .second)) (with1-is (λ a. openOf (nameOf a)) ws)
+  -- a form with so many words after the first, where it goes by what each of them says
+  tells-0 : (x : Form) → Whole x → Keeps (aloneIn f x) (with0 x ws)
+  tells-0 x k = still (rw (told (f .n) 0 (length ws) (t .n) (omega arith)) (with0-is x ws)) (all-0 Whole refl x ws k)
 
-  drops-tells : (r : Reply) (o : Option (List Entry)) → Holds r o → dropsIn (entriesIn r) (r .sound) ≡ dropsOf o
-  drops-tells r none k = rw k
-  drops-tells r (some es) k = ap (dropsIn (entriesIn r)) (k .0) ∙ ap drops (k .1 .entries)
+  tells-1 : (g : Reading → Form) (h : List ℕ → Form) → ((a : List ℕ) → g (readingOf a) ≡ h a) → ((a : List ℕ) → Whole (h a))
+      → Keeps (cond (eqb (f .n) 2) (g (f .second)) malformed) (with1 h ws)
+  tells-1 g h e k = still (rw (told (f .n) 1 (length ws) (t .n) (omega arith), t .second, e (getD ws 0 [])) (with1-is h ws)) (all-1 Whole refl h ws k)
 
-  session-tells : (s : Session) (r : Reply) → Holds r (entriesOf ws) → sessionIn (entriesIn r) (r .sound) s f ≡ sessionForm s ws
-  unfolding sessionForm putInIn exchangeIn takeOutIn
-  session-tells session.Drops r k = drops-tells r (entriesOf ws) k
-  session-tells session.Refused r k = rw (told (f .n) 0 (length ws) (t .n) (omega arith)) (with0-is _ ws)
-  session-tells session.PutIn r k =
-      rw (
-        told (f .n) 3 (length ws) (t .n) (omega arith),
-        count-in (f .second) _ (t .second),
-        double-in (f .third) _ (t .third),
-        sigma-in (f .fourth) _ (t .fourth),
-      )
-      (with3-is (λ a b c. putInOf (countOf a) (doubleOf b) (sigmaOf c)) ws)
-  session-tells session.TakeOut r k =
-      rw (told (f .n) 1 (length ws) (t .n) (omega arith), count-in (f .second) _ (t .second)) (with1-is (λ a. takeOutOf (countOf a)) ws)
-  session-tells session.Exchange r k =
-      rw (
-        told (f .n) 3 (length ws) (t .n) (omega arith),
-        count-in (f .second) _ (t .second),
-        double-in (f .third) _ (t .third),
-        sigma-in (f .fourth) _ (t .fourth),
-      )
-      (with3-is (λ a b c. exchangeOf (countOf a) (doubleOf b) (sigmaOf c)) ws)
-  session-tells session.Asked r k = rw (told (f .n) 0 (length ws) (t .n) (omega arith)) (with0-is _ ws)
+  tells-2 : (g : Reading → Reading → Form) (h : List ℕ → List ℕ → Form) → ((a b : List ℕ) → g (readingOf a) (readingOf b) ≡ h a b)
+      → ((a b : List ℕ) → Whole (h a b)) → Keeps (cond (eqb (f .n) 3) (g (f .second) (f .third)) malformed) (with2 h ws)
+  tells-2 g h e k =
+      still (rw (told (f .n) 2 (length ws) (t .n) (omega arith), t .second, t .third, e (getD ws 0 []) (getD ws 1 [])) (with2-is h ws))
+      (all-2 Whole refl h ws k)
 
-  named-tells : (n : Name) (r : Reply) → Holds r (entriesOf ws) → namedIn (entriesIn r) (r .sound) n f ≡ namedForm n ws
-  named-tells (name.Request q) r k = request-tells q
-  named-tells (name.Session s) r k = session-tells s r k
-  named-tells (name.Mark m) r k = refl
-  named-tells name.Other r k = refl
+  tells-3 : (g : Reading → Reading → Reading → Form) (h : List ℕ → List ℕ → List ℕ → Form)
+      → ((a b c : List ℕ) → g (readingOf a) (readingOf b) (readingOf c) ≡ h a b c) → ((a b c : List ℕ) → Whole (h a b c))
+      → Keeps (cond (eqb (f .n) 4) (g (f .second) (f .third) (f .fourth)) malformed) (with3 h ws)
+  tells-3 g h e k =
+      still
+      (rw (told (f .n) 3 (length ws) (t .n) (omega arith), t .second, t .third, t .fourth, e (getD ws 0 []) (getD ws 1 []) (getD ws 2 [])) (with3-is h ws))
+      (all-3 Whole refl h ws k)
 
-tracks-form : (l : Line) (w : List ℕ) (ws : List (List ℕ)) → Tracks l w ws → formIn l ≡ formOfWords (w ∷ ws)
+  entered-tells : Keeps (enteredIn f) (with2 (λ a b. enteredOf (doubleOf a) (doubleOf b)) ws)
+  unfolding enteredIn enteredOf
+  entered-tells =
+      tells-2 (λ x y. enteredOf (doubleIn x) (doubleIn y)) _ (λ a b. rw (double-of a, double-of b))
+      (λ a b. whole-if (doubleOf a) _ (λ x. whole-if (doubleOf b) _ (λ y. refl)))
+
+  shot-tells : Keeps (shotIn f) (with3 (λ a b c. shotOf (doubleOf a) (doubleOf b) (doubleOf c)) ws)
+  unfolding shotIn shotOf
+  shot-tells =
+      tells-3 (λ x y z. shotOf (doubleIn x) (doubleIn y) (doubleIn z)) _ (λ a b c. rw (double-of a, double-of b, double-of c))
+      (λ a b c. whole-if (doubleOf a) _ (λ x. whole-if (doubleOf b) _ (λ y. whole-if (doubleOf c) _ (λ z. refl))))
+
+  prior-tells : Keeps (priorIn f) (with3 (λ a b c. priorOf (is "speed" a) (is "coefficient" a) (doubleOf b) (doubleOf c)) ws)
+  unfolding priorIn priorOf
+  prior-tells =
+      tells-3 (λ x y z. priorOf (eqb (x .word) (place "speed")) (eqb (x .word) (place "coefficient")) (doubleIn y) (doubleIn z)) _
+      (λ a b c. rw (word-of "speed" refl a, word-of "coefficient" refl a, double-of b, double-of c))
+      (λ a b c. whole-if (doubleOf b) _ (λ y. whole-if (doubleOf c) _ (λ z. whole-prior (is "speed" a) (is "coefficient" a) y z)))
+
+  distance-tells : Keeps (distanceIn f) (with2 (λ a b. distanceOf (doubleOf a) (sigmaOf b)) ws)
+  unfolding distanceIn distanceOf
+  distance-tells =
+      tells-2 (λ x y. distanceOf (doubleIn x) (sigmaIn y)) _ (λ a b. rw (double-of a, sigma-of b))
+      (λ a b. whole-if (doubleOf a) _ (λ x. whole-if (sigmaOf b) _ (λ y. refl)))
+
+  open-tells : Keeps (openIn f) (with1 (λ a. openOf (is "plain" a)) ws)
+  unfolding openIn
+  open-tells = tells-1 (λ x. openOf (eqb (x .word) (place "plain"))) _ (λ a. rw (word-of "plain" refl a)) (λ a. whole-open (is "plain" a))
+
+  drops-tells : (r : Reply) (o : Option (List Entry)) → Holds r o → Keeps (dropsIn (entriesIn r) (r .sound)) (dropsOf o)
+  drops-tells r none k = record { kept = rw k }
+  drops-tells r (some es) k = record { kept = ap (dropsIn (entriesIn r)) (k .0) ∙ ap drops (k .1 .entries) }
+
+  put-in-tells : Keeps (putInIn f) (with3 (λ a b c. putInOf (countOf a) (doubleOf b) (sigmaOf c)) ws)
+  unfolding putInIn putInOf
+  put-in-tells =
+      tells-3 (λ x y z. putInOf (countIn x) (doubleIn y) (sigmaIn z)) _ (λ a b c. rw (count-of a, double-of b, sigma-of c))
+      (λ a b c. whole-if (countOf a) _ (λ x. whole-if (doubleOf b) _ (λ y. whole-if (sigmaOf c) _ (λ z. refl))))
+
+  take-out-tells : Keeps (takeOutIn f) (with1 (λ a. takeOutOf (countOf a)) ws)
+  unfolding takeOutIn takeOutOf
+  take-out-tells = tells-1 (λ x. takeOutOf (countIn x)) _ (λ a. rw (count-of a)) (λ a. whole-if (countOf a) _ (λ x. refl))
+
+  exchange-tells : Keeps (exchangeIn f) (with3 (λ a b c. exchangeOf (countOf a) (doubleOf b) (sigmaOf c)) ws)
+  unfolding exchangeIn exchangeOf
+  exchange-tells =
+      tells-3 (λ x y z. exchangeOf (countIn x) (doubleIn y) (sigmaIn z)) _ (λ a b c. rw (count-of a, double-of b, sigma-of c))
+      (λ a b c. whole-if (countOf a) _ (λ x. whole-if (doubleOf b) _ (λ y. whole-if (sigmaOf c) _ (λ z. refl))))
+
+  form-tells : (r : Reply) → Holds r (entriesOf ws) → Keeps (namedIn (entriesIn r) (r .sound) (readingOf w .word) f) (formOfWords (w ∷ ws))
+  form-tells r k =
+      pick (word-of "entered" refl w) entered-tells
+      (pick (word-of "shot" refl w) shot-tells
+      (pick (word-of "prior" refl w) prior-tells
+      (pick (word-of "distance" refl w) distance-tells
+      (pick (word-of "open" refl w) open-tells
+      (pick (word-of "drops" refl w) (drops-tells r (entriesOf ws) k)
+      (pick (word-of "refused" refl w) (tells-0 refused refl)
+      (pick (word-of "put-in" refl w) put-in-tells
+      (pick (word-of "take-out" refl w) take-out-tells
+      (pick (word-of "exchange" refl w) exchange-tells
+      (pick (word-of "asked" refl w) (tells-0 asked refl) (still refl refl)))))))))))
+
+tracks-form : (l : Line) (w : List ℕ) (ws : List (List ℕ)) → Tracks l w ws → formIn l ≡ short (formOfWords (w ∷ ws))
 unfolding formIn
 tracks-form l w ws t =
     rw (t .sound)
-    (named-tells (l .fields) w ws (t .fields) (l .fields .first .name) (l .reply) (t .reply)
-    ∙ ap (λ (n : Name). namedForm n ws) (name-in (l .fields .first) w (t .fields .first)))
+    (ap (λ (x : Reading). namedIn (entriesIn (l .reply)) (l .reply .sound) (x .word) (l .fields)) (t .fields .first)
+    ∙ form-tells (l .fields) w ws (t .fields) (l .reply) (t .reply) .kept)
 
 -- ---- a line that is not sound
 
@@ -376,12 +427,12 @@ no-words : formIn startOf ≡ malformed
 unfolding formIn startOf
 no-words = refl
 
--- words that are fed one by one come to the form that they are
-pub words-form : (ws : List (List ℕ)) → formIn (feedAll startOf ws) ≡ formOfWords ws
+-- words that are fed one by one come to what is kept of the form that they are
+pub words-form : (ws : List (List ℕ)) → formIn (feedAll startOf ws) ≡ short (formOfWords ws)
 words-form [] = no-words
 words-form (w ∷ ws) = by (anyLong (w ∷ ws)) refl where
-  by : (v : Bool) → anyLong (w ∷ ws) ≡ v → formIn (feedAll startOf (w ∷ ws)) ≡ formOfWords (w ∷ ws)
-  by true e = unsound-form (feedAll startOf (w ∷ ws)) (long-unsound startOf (w ∷ ws) e) ∙ sym (words-bad (w ∷ ws) e)
+  by : (v : Bool) → anyLong (w ∷ ws) ≡ v → formIn (feedAll startOf (w ∷ ws)) ≡ short (formOfWords (w ∷ ws))
+  by true e = unsound-form (feedAll startOf (w ∷ ws)) (long-unsound startOf (w ∷ ws) e) ∙ sym (ap short (words-bad (w ∷ ws) e))
   by false e =
       let h : length w ≤ 20 = ltb-false 20 (length w) (neither-l (long w) (anyLong ws) e) in
       tracks-form (feedAll (feedOf startOf w) ws) w ws (all-tracks (feedOf startOf w) w [] ws (neither-r (long w) (anyLong ws) e) (first-tracks w h))

@@ -1,5 +1,4 @@
 -- Definitions that the contracts of the crate `forms` cite, written from the line protocol of the program `truing`.
 pub mod Numbers
-pub mod Words
 pub mod Lines
 pub mod Reading

@@ -1,20 +1,12 @@
 -- A line of the host, without its line feed: ( and then words with one blank between them and then ), which together are one of the forms.
 use Prim.Native.Nat.{ℕ}
-use mathlib.Core.Bool.{cond}
+use mathlib.Core.Bool.{Bool, true, false, cond}
 use mathlib.Core.List.{List, [], _∷_}
 use mathlib.Core.Option.{Option, none, some}
 use lib.Dec.{eqb}
-use lib.ListN.{take}
 use lib.Ieee.{Float}
-use Rattle.forms.specs.declared.Request.{Request}
-use Rattle.forms.specs.declared.Request.the-variants as request
-use Rattle.forms.specs.declared.Session.{Session}
-use Rattle.forms.specs.declared.Session.the-variants as session
-use Rattle.forms.specs.declared.Mark.the-variants as mark
-use Rattle.forms.specs.declared.Name.{Name}
-use Rattle.forms.specs.declared.Name.the-variants as name
+use Rattle.words.specs.Words.{is}
 use Rattle.forms.specs.Numbers.{doubleOf, countOf}
-use Rattle.forms.specs.Words.{nameOf}
 
 -- an entry of a reply
 pub data Entry : Type 0 where
@@ -44,45 +36,25 @@ abbrev pub ifRead : {A : Type 0} → Option A → (A → Form) → Form
 ifRead none f = malformed
 ifRead (some a) f = f a
 
--- the word none, which says that there is no sigma
-abbrev pub absentOr : Name → Option (Option Float)
-absentOr (name.Request r) = none
-absentOr (name.Session s) = none
-absentOr (name.Mark mark.Speed) = none
-absentOr (name.Mark mark.Coefficient) = none
-absentOr (name.Mark mark.Plain) = none
-absentOr (name.Mark mark.Missing) = none
-absentOr (name.Mark mark.Absent) = some none
-absentOr name.Other = none
-
--- a sigma, of a word that is read as a double and as a name
-abbrev pub sigmaFrom : Option Float → Name → Option (Option Float)
-sigmaFrom none n = absentOr n
-sigmaFrom (some x) n = some (some x)
+-- a sigma, of a word that is read as a double, and that may be the word none, which says that there is no sigma
+abbrev pub sigmaFrom : Option Float → Bool → Option (Option Float)
+sigmaFrom (some x) isNone = some (some x)
+sigmaFrom none true = some none
+sigmaFrom none false = none
 
 -- a sigma: a double or the word none
 abbrev pub sigmaOf : List ℕ → Option (Option Float)
-sigmaOf w = sigmaFrom (doubleOf w) (nameOf w)
+sigmaOf w = sigmaFrom (doubleOf w) (is "none" w)
 
--- the word missing
-abbrev pub missingOr : Name → Option Entry
-missingOr (name.Request r) = none
-missingOr (name.Session s) = none
-missingOr (name.Mark mark.Speed) = none
-missingOr (name.Mark mark.Coefficient) = none
-missingOr (name.Mark mark.Plain) = none
-missingOr (name.Mark mark.Missing) = some missing
-missingOr (name.Mark mark.Absent) = none
-missingOr name.Other = none
-
--- an entry, of a word that is read as a double and as a name
-abbrev pub entryFrom : Option Float → Name → Option Entry
-entryFrom none n = missingOr n
-entryFrom (some x) n = some (given x)
+-- an entry, of a word that is read as a double, and that may be the word missing
+abbrev pub entryFrom : Option Float → Bool → Option Entry
+entryFrom (some x) isMissing = some (given x)
+entryFrom none true = some missing
+entryFrom none false = none
 
 -- an entry: a double or the word missing
 abbrev pub entryOf : List ℕ → Option Entry
-entryOf w = entryFrom (doubleOf w) (nameOf w)
+entryOf w = entryFrom (doubleOf w) (is "missing" w)
 
 -- an entry before others, where all are read
 abbrev pub inFront : Option Entry → Option (List Entry) → Option (List Entry)
@@ -106,34 +78,20 @@ unfoldable pub shotOf : Option Float → Option Float → Option Float → Form
 shotOf x y z = ifRead x (λ a. ifRead y (λ b. ifRead z (λ c. shot a b c)))
 
 -- the second word says of what the prior is
-abbrev pub priorBy : Name → Float → Float → Form
-priorBy (name.Request r) x y = malformed
-priorBy (name.Session s) x y = malformed
-priorBy (name.Mark mark.Speed) x y = priorSpeed x y
-priorBy (name.Mark mark.Coefficient) x y = priorCoefficient x y
-priorBy (name.Mark mark.Plain) x y = malformed
-priorBy (name.Mark mark.Missing) x y = malformed
-priorBy (name.Mark mark.Absent) x y = malformed
-priorBy name.Other x y = malformed
+abbrev pub priorBy : Bool → Bool → Float → Float → Form
+priorBy isSpeed isCoefficient x y = cond isSpeed (priorSpeed x y) (cond isCoefficient (priorCoefficient x y) malformed)
 
 -- (prior speed MEAN SIGMA), (prior coefficient MEAN SIGMA)
-unfoldable pub priorOf : Name → Option Float → Option Float → Form
-priorOf n x y = ifRead x (λ a. ifRead y (λ b. priorBy n a b))
+unfoldable pub priorOf : Bool → Bool → Option Float → Option Float → Form
+priorOf isSpeed isCoefficient x y = ifRead x (λ a. ifRead y (λ b. priorBy isSpeed isCoefficient a b))
 
 -- (distance DISTANCE SIGMA)
 unfoldable pub distanceOf : Option Float → Option (Option Float) → Form
 distanceOf x s = ifRead x (λ a. ifRead s (λ t. distance a t))
 
 -- (open plain), and no other
-abbrev pub openOf : Name → Form
-openOf (name.Request r) = malformed
-openOf (name.Session s) = malformed
-openOf (name.Mark mark.Speed) = malformed
-openOf (name.Mark mark.Coefficient) = malformed
-openOf (name.Mark mark.Plain) = openPlain
-openOf (name.Mark mark.Missing) = malformed
-openOf (name.Mark mark.Absent) = malformed
-openOf name.Other = malformed
+abbrev pub openOf : Bool → Form
+openOf isPlain = cond isPlain openPlain malformed
 
 -- (put-in PLACE DISTANCE SIGMA)
 unfoldable pub putInOf : Option ℕ → Option Float → Option (Option Float) → Form
@@ -147,10 +105,10 @@ exchangeOf k x s = ifRead k (λ n. ifRead x (λ a. ifRead s (λ t. exchange n a 
 unfoldable pub takeOutOf : Option ℕ → Form
 takeOutOf k = ifRead k (λ n. takeOut n)
 
--- A reply may have any number of entries. Of these the first 65 are kept: a reply with more than 64 is declined whatever they are.
+-- (drops D ..), with any number of entries
 abbrev pub dropsOf : Option (List Entry) → Form
 dropsOf none = malformed
-dropsOf (some es) = drops (take 65 es)
+dropsOf (some es) = drops es
 
 -- ---- forms by their words
 
@@ -174,34 +132,21 @@ abbrev pub with3 : (List ℕ → List ℕ → List ℕ → Form) → List (List 
 with3 f [] = malformed
 with3 f (a ∷ ws) = with2 (f a) ws
 
--- the form of a request, by its first word and the others
-unfoldable pub requestForm : Request → List (List ℕ) → Form
-requestForm request.Entered ws = with2 (λ a b. enteredOf (doubleOf a) (doubleOf b)) ws
-requestForm request.Shot ws = with3 (λ a b c. shotOf (doubleOf a) (doubleOf b) (doubleOf c)) ws
-requestForm request.Prior ws = with3 (λ a b c. priorOf (nameOf a) (doubleOf b) (doubleOf c)) ws
-requestForm request.Distance ws = with2 (λ a b. distanceOf (doubleOf a) (sigmaOf b)) ws
-requestForm request.Open ws = with1 (λ a. openOf (nameOf a)) ws
-
--- the form of a session, by its first word and the others
-unfoldable pub sessionForm : Session → List (List ℕ) → Form
-sessionForm session.Drops ws = dropsOf (entriesOf ws)
-sessionForm session.Refused ws = with0 refused ws
-sessionForm session.PutIn ws = with3 (λ a b c. putInOf (countOf a) (doubleOf b) (sigmaOf c)) ws
-sessionForm session.TakeOut ws = with1 (λ a. takeOutOf (countOf a)) ws
-sessionForm session.Exchange ws = with3 (λ a b c. exchangeOf (countOf a) (doubleOf b) (sigmaOf c)) ws
-sessionForm session.Asked ws = with0 asked ws
-
--- the form, by the name of its first word and the others
-abbrev pub namedForm : Name → List (List ℕ) → Form
-namedForm (name.Request r) ws = requestForm r ws
-namedForm (name.Session s) ws = sessionForm s ws
-namedForm (name.Mark m) ws = malformed
-namedForm name.Other ws = malformed
-
--- the form that words are
+-- the form that words are, by the first of them
 abbrev pub formOfWords : List (List ℕ) → Form
 formOfWords [] = malformed
-formOfWords (w ∷ ws) = namedForm (nameOf w) ws
+formOfWords (w ∷ ws) =
+    cond (is "entered" w) (with2 (λ a b. enteredOf (doubleOf a) (doubleOf b)) ws)
+    (cond (is "shot" w) (with3 (λ a b c. shotOf (doubleOf a) (doubleOf b) (doubleOf c)) ws)
+    (cond (is "prior" w) (with3 (λ a b c. priorOf (is "speed" a) (is "coefficient" a) (doubleOf b) (doubleOf c)) ws)
+    (cond (is "distance" w) (with2 (λ a b. distanceOf (doubleOf a) (sigmaOf b)) ws)
+    (cond (is "open" w) (with1 (λ a. openOf (is "plain" a)) ws)
+    (cond (is "drops" w) (dropsOf (entriesOf ws))
+    (cond (is "refused" w) (with0 refused ws)
+    (cond (is "put-in" w) (with3 (λ a b c. putInOf (countOf a) (doubleOf b) (sigmaOf c)) ws)
+    (cond (is "take-out" w) (with1 (λ a. takeOutOf (countOf a)) ws)
+    (cond (is "exchange" w) (with3 (λ a b c. exchangeOf (countOf a) (doubleOf b) (sigmaOf c)) ws)
+    (cond (is "asked" w) (with0 asked ws) malformed))))))))))
 
 -- ---- lines
 

@@ -1,5 +1,5 @@
--- How the code reads a line word by word, in the code's own terms, one definition for each function. What it comes to is `formOf`: the theorem
--- `line-form` of proofs/Lines.antt.
+-- How the code reads a line word by word, in the code's own terms, one definition for each function: a fixed word is its place in the table of words.
+-- What it comes to is `formOf`: the theorem `line-form` of proofs/Lines.antt.
 use Prim.Native.Nat.{ℕ, _+_}
 use mathlib.Core.Bool.{Bool, true, false, cond}
 use mathlib.Core.List.{List, [], _∷_}
@@ -7,16 +7,11 @@ use mathlib.Core.Option.{Option, none, some}
 use lib.Dec.{leb, ltb, eqb}
 use lib.ListN.{length, take, set, replicate}
 use lib.Ieee.{Float, binary64, ofBits}
+use Rattle.words.specs.Words.{words, placeOf, place}
 use Rattle.forms.specs.declared.ReadDouble.{ReadDouble}
 use Rattle.forms.specs.declared.ReadDouble.the-variants as readDouble
 use Rattle.forms.specs.declared.ReadCount.{ReadCount}
 use Rattle.forms.specs.declared.ReadCount.the-variants as readCount
-use Rattle.forms.specs.declared.Request.{Request}
-use Rattle.forms.specs.declared.Request.the-variants as request
-use Rattle.forms.specs.declared.Session.{Session}
-use Rattle.forms.specs.declared.Session.the-variants as session
-use Rattle.forms.specs.declared.Name.{Name}
-use Rattle.forms.specs.declared.Name.the-variants as name
 use Rattle.forms.specs.declared.Sigma.{Sigma}
 use Rattle.forms.specs.declared.Sigma.the-variants as sigma
 use Rattle.forms.specs.declared.ReadSigma.{ReadSigma}
@@ -30,7 +25,6 @@ use Rattle.forms.specs.declared.Fields.{Fields}
 use Rattle.forms.specs.declared.Reply.{Reply}
 use Rattle.forms.specs.declared.Line.{Line}
 use Rattle.forms.specs.Numbers.{doubleOf, countOf, saysDouble, saysCount}
-use Rattle.forms.specs.Words.{nameOf}
 use Rattle.forms.specs.Lines.{Entry, missing, given, Form, malformed, entered, shot, priorSpeed, priorCoefficient, distance, openPlain, drops, refused, putIn, takeOut, exchange, asked, sigmaFrom, entryFrom, enteredOf, shotOf, priorOf, distanceOf, openOf, putInOf, exchangeOf, takeOutOf, afterOpen, beforeClose}
 
 -- ---- what the code's values say
@@ -94,13 +88,13 @@ abbrev pub asCount : Option ℕ → ReadCount
 asCount none = readCount.Malformed
 asCount (some n) = readCount.Count n
 
--- a word as a name, as a double and as a count
+-- a word as a fixed word, as a double and as a count
 unfoldable pub readingOf : List ℕ → Reading
-readingOf s = record { name = nameOf s; double = asDouble (doubleOf s); count = asCount (countOf s) }
+readingOf s = record { word = placeOf s; double = asDouble (doubleOf s); count = asCount (countOf s) }
 
 -- no word
 abbrev pub blank : Reading
-blank = record { name = name.Other; double = readDouble.Malformed; count = readCount.Malformed }
+blank = record { word = length words; double = readDouble.Malformed; count = readCount.Malformed }
 
 -- ---- the state
 
@@ -146,50 +140,55 @@ feedOf l s =
     (record {
       sound = l .sound;
       fields = withFieldOf (l .fields .n) (l .fields) (readingOf s);
-      reply = withEntryOf (l .reply) (entryFrom (saysDouble (readingOf s .double)) (readingOf s .name));
+      reply = withEntryOf (l .reply) (entryFrom (saysDouble (readingOf s .double)) (eqb (readingOf s .word) (place "missing")));
     }))
 
 -- ---- the form of what was read
 
+-- a word as a double, as a count and as a sigma
+abbrev pub doubleIn : Reading → Option Float
+doubleIn x = saysDouble (x .double)
+
+abbrev pub countIn : Reading → Option ℕ
+countIn x = saysCount (x .count)
+
+abbrev pub sigmaIn : Reading → Option (Option Float)
+sigmaIn x = sigmaFrom (saysDouble (x .double)) (eqb (x .word) (place "none"))
+
 -- the form entered, of what the fields hold
 unfoldable pub enteredIn : Fields → Form
-enteredIn f = cond (eqb (f .n) 3) (enteredOf (saysDouble (f .second .double)) (saysDouble (f .third .double))) malformed
+enteredIn f = cond (eqb (f .n) 3) (enteredOf (doubleIn (f .second)) (doubleIn (f .third))) malformed
 
 -- shot
 unfoldable pub shotIn : Fields → Form
-shotIn f =
-    cond (eqb (f .n) 4) (shotOf (saysDouble (f .second .double)) (saysDouble (f .third .double)) (saysDouble (f .fourth .double))) malformed
+shotIn f = cond (eqb (f .n) 4) (shotOf (doubleIn (f .second)) (doubleIn (f .third)) (doubleIn (f .fourth))) malformed
 
 -- prior
 unfoldable pub priorIn : Fields → Form
-priorIn f = cond (eqb (f .n) 4) (priorOf (f .second .name) (saysDouble (f .third .double)) (saysDouble (f .fourth .double))) malformed
+priorIn f =
+    cond (eqb (f .n) 4)
+    (priorOf (eqb (f .second .word) (place "speed")) (eqb (f .second .word) (place "coefficient")) (doubleIn (f .third)) (doubleIn (f .fourth)))
+    malformed
 
 -- distance
 unfoldable pub distanceIn : Fields → Form
-distanceIn f =
-    cond (eqb (f .n) 3) (distanceOf (saysDouble (f .second .double)) (sigmaFrom (saysDouble (f .third .double)) (f .third .name))) malformed
+distanceIn f = cond (eqb (f .n) 3) (distanceOf (doubleIn (f .second)) (sigmaIn (f .third))) malformed
 
 -- open
 unfoldable pub openIn : Fields → Form
-openIn f = cond (eqb (f .n) 2) (openOf (f .second .name)) malformed
+openIn f = cond (eqb (f .n) 2) (openOf (eqb (f .second .word) (place "plain"))) malformed
 
 -- put-in
 unfoldable pub putInIn : Fields → Form
-putInIn f =
-    cond (eqb (f .n) 4)
-    (putInOf (saysCount (f .second .count)) (saysDouble (f .third .double)) (sigmaFrom (saysDouble (f .fourth .double)) (f .fourth .name)))
-    malformed
+putInIn f = cond (eqb (f .n) 4) (putInOf (countIn (f .second)) (doubleIn (f .third)) (sigmaIn (f .fourth))) malformed
 
 -- exchange
 unfoldable pub exchangeIn : Fields → Form
-exchangeIn f =
-    cond (eqb (f .n) 4)
-    (exchangeOf (saysCount (f .second .count)) (saysDouble (f .third .double)) (sigmaFrom (saysDouble (f .fourth .double)) (f .fourth .name)))
-    malformed
+exchangeIn f = cond (eqb (f .n) 4) (exchangeOf (countIn (f .second)) (doubleIn (f .third)) (sigmaIn (f .fourth))) malformed
 
 -- take-out
 unfoldable pub takeOutIn : Fields → Form
-takeOutIn f = cond (eqb (f .n) 2) (takeOutOf (saysCount (f .second .count))) malformed
+takeOutIn f = cond (eqb (f .n) 2) (takeOutOf (countIn (f .second))) malformed
 
 -- a form of one word
 abbrev pub aloneIn : Fields → Form → Form
@@ -200,33 +199,44 @@ abbrev pub dropsIn : List Entry → Bool → Form
 dropsIn es true = drops es
 dropsIn es false = malformed
 
--- a form of a request
-abbrev pub requestIn : Request → Fields → Form
-requestIn request.Entered f = enteredIn f
-requestIn request.Shot f = shotIn f
-requestIn request.Prior f = priorIn f
-requestIn request.Distance f = distanceIn f
-requestIn request.Open f = openIn f
+-- a form of a session, by the place of its first word
+abbrev pub sessionIn : List Entry → Bool → ℕ → Fields → Form
+sessionIn es sound k f =
+    cond (eqb k (place "drops")) (dropsIn es sound)
+    (cond (eqb k (place "refused")) (aloneIn f refused)
+    (cond (eqb k (place "put-in")) (putInIn f)
+    (cond (eqb k (place "take-out")) (takeOutIn f)
+    (cond (eqb k (place "exchange")) (exchangeIn f)
+    (cond (eqb k (place "asked")) (aloneIn f asked) malformed)))))
 
--- a form of a session
-abbrev pub sessionIn : List Entry → Bool → Session → Fields → Form
-sessionIn es sound session.Drops f = dropsIn es sound
-sessionIn es sound session.Refused f = aloneIn f refused
-sessionIn es sound session.PutIn f = putInIn f
-sessionIn es sound session.TakeOut f = takeOutIn f
-sessionIn es sound session.Exchange f = exchangeIn f
-sessionIn es sound session.Asked f = aloneIn f asked
-
--- a form, by the name of its first word
-abbrev pub namedIn : List Entry → Bool → Name → Fields → Form
-namedIn es sound (name.Request r) f = requestIn r f
-namedIn es sound (name.Session s) f = sessionIn es sound s f
-namedIn es sound (name.Mark m) f = malformed
-namedIn es sound name.Other f = malformed
+-- a form of a request or of a session
+abbrev pub namedIn : List Entry → Bool → ℕ → Fields → Form
+namedIn es sound k f =
+    cond (eqb k (place "entered")) (enteredIn f)
+    (cond (eqb k (place "shot")) (shotIn f)
+    (cond (eqb k (place "prior")) (priorIn f)
+    (cond (eqb k (place "distance")) (distanceIn f)
+    (cond (eqb k (place "open")) (openIn f) (sessionIn es sound k f)))))
 
 -- the form of the words that a line has read
 unfoldable pub formIn : Line → Form
-formIn l = cond (l .sound) (namedIn (entriesIn (l .reply)) (l .reply .sound) (l .fields .first .name) (l .fields)) malformed
+formIn l = cond (l .sound) (namedIn (entriesIn (l .reply)) (l .reply .sound) (l .fields .first .word) (l .fields)) malformed
+
+-- What the code keeps of a form: of a reply the first 65 entries. A question has at most 64, so a reply with more is declined whatever they are.
+abbrev pub short : Form → Form
+short malformed = malformed
+short (entered x y) = entered x y
+short (shot x y z) = shot x y z
+short (priorSpeed x y) = priorSpeed x y
+short (priorCoefficient x y) = priorCoefficient x y
+short (distance x s) = distance x s
+short openPlain = openPlain
+short (drops es) = drops (take 65 es)
+short refused = refused
+short (putIn k x s) = putIn k x s
+short (takeOut k) = takeOut k
+short (exchange k x s) = exchange k x s
+short asked = asked
 
 -- ---- words with their parentheses
 

@@ -1,14 +1,15 @@
 // The line protocol of the program `truing`: doubles, counts, words and lines, read from bytes and written as bytes.
 ghost use mathlib.Core.Path.{_≡_};
 ghost use mathlib.Core.List.{List, _++_};
-ghost use mathlib.Core.Option.{some};
+ghost use mathlib.Core.Option.{none, some};
 ghost use Prim.Native.Nat.{_+_, _*_, _≤_, _<_};
+ghost use lib.Dec.{eqb};
 ghost use lib.ListN.{length, drop};
 ghost use lib.Ieee.{binary64, ofBits, toBits};
+ghost use Rattle.words.specs.Words.{place};
 ghost use Rattle.forms.specs.Numbers.{digitOf, glyphOf, numberFrom, digitsOf, doubleOf, doubleText, saysDouble, within64, countOf, placesOf, countText, in20, saysCount};
-ghost use Rattle.forms.specs.Words.{same, markOf, sessionOf, nameOf};
-ghost use Rattle.forms.specs.Lines.{Entry, missingOr, absentOr, entryFrom, sigmaFrom, refused, asked, priorBy, openOf};
-ghost use Rattle.forms.specs.Reading.{readingOf, blank, startOf, spoiledOf, withFieldOf, pushOf, withEntryOf, saysEntry, feedOf, sigmaSays, saysSigma, entriesIn, formSays, enteredIn, shotIn, priorIn, distanceIn, openIn, putInIn, exchangeIn, takeOutIn, aloneIn, dropsIn, requestIn, sessionIn, formIn, endOf, takeOf};
+ghost use Rattle.forms.specs.Lines.{Entry, entryFrom, sigmaFrom, refused, asked, priorBy, openOf};
+ghost use Rattle.forms.specs.Reading.{readingOf, blank, startOf, spoiledOf, withFieldOf, pushOf, withEntryOf, saysEntry, feedOf, saysSigma, entriesIn, formSays, enteredIn, shotIn, priorIn, distanceIn, openIn, putInIn, exchangeIn, takeOutIn, aloneIn, dropsIn, sessionIn, namedIn, formIn, endOf, takeOf};
 
 const SIGN: u64 = 0x8000_0000_0000_0000;
 
@@ -186,126 +187,6 @@ pub fn write_count(n: u64) -> CountText
     }
 }
 
-// The words that begin a form of a request.
-pub enum Request {
-    Entered,
-    Shot,
-    Prior,
-    Distance,
-    Open,
-}
-
-// The words that begin a form of a session.
-pub enum Session {
-    Drops,
-    Refused,
-    PutIn,
-    TakeOut,
-    Exchange,
-    Asked,
-}
-
-// The words that stand within a form. `Absent` is written none.
-pub enum Mark {
-    Speed,
-    Coefficient,
-    Plain,
-    Missing,
-    Absent,
-}
-
-// A fixed word of a line.
-pub enum Name {
-    Request(Request),
-    Session(Session),
-    Mark(Mark),
-    Other,
-}
-
-// Whether two slices hold the same bytes.
-fn is_same(s: &[u8], t: &[u8]) -> bool
-    ensures { λ r. ⌜ r ≡ same (now (s .entry)) (now (t .entry)) ⌝ }
-{
-    if s.len() != t.len() {
-        return false;
-    }
-    let mut i = 0usize;
-    while i < s.len() {
-        if s[i] != t[i] {
-            return false;
-        }
-        i += 1;
-    }
-    true
-}
-
-fn mark_name(s: &[u8]) -> Name
-    ensures { λ r. ⌜ r ≡ markOf (now (s .entry)) ⌝ }
-{
-    if is_same(s, b"speed") {
-        return Name::Mark(Mark::Speed);
-    }
-    if is_same(s, b"coefficient") {
-        return Name::Mark(Mark::Coefficient);
-    }
-    if is_same(s, b"plain") {
-        return Name::Mark(Mark::Plain);
-    }
-    if is_same(s, b"missing") {
-        return Name::Mark(Mark::Missing);
-    }
-    if is_same(s, b"none") {
-        return Name::Mark(Mark::Absent);
-    }
-    Name::Other
-}
-
-fn session_name(s: &[u8]) -> Name
-    ensures { λ r. ⌜ r ≡ sessionOf (now (s .entry)) ⌝ }
-{
-    if is_same(s, b"drops") {
-        return Name::Session(Session::Drops);
-    }
-    if is_same(s, b"refused") {
-        return Name::Session(Session::Refused);
-    }
-    if is_same(s, b"put-in") {
-        return Name::Session(Session::PutIn);
-    }
-    if is_same(s, b"take-out") {
-        return Name::Session(Session::TakeOut);
-    }
-    if is_same(s, b"exchange") {
-        return Name::Session(Session::Exchange);
-    }
-    if is_same(s, b"asked") {
-        return Name::Session(Session::Asked);
-    }
-    mark_name(s)
-}
-
-// The fixed word that s is, `Other` where it is none.
-pub fn read_name(s: &[u8]) -> Name
-    ensures { λ r. ⌜ r ≡ nameOf (now (s .entry)) ⌝ }
-{
-    if is_same(s, b"entered") {
-        return Name::Request(Request::Entered);
-    }
-    if is_same(s, b"shot") {
-        return Name::Request(Request::Shot);
-    }
-    if is_same(s, b"prior") {
-        return Name::Request(Request::Prior);
-    }
-    if is_same(s, b"distance") {
-        return Name::Request(Request::Distance);
-    }
-    if is_same(s, b"open") {
-        return Name::Request(Request::Open);
-    }
-    session_name(s)
-}
-
 // A sigma that is read.
 pub enum Sigma {
     Absent,
@@ -340,9 +221,9 @@ pub enum ReadForm {
     Asked,
 }
 
-// A word, read in each way that a field can be.
+// A word, read in each way that a field can be: `word` is its place in the table of words.
 pub struct Reading {
-    pub name: Name,
+    pub word: usize,
     pub double: ReadDouble,
     pub count: ReadCount,
 }
@@ -376,7 +257,7 @@ fn read_word(s: &[u8]) -> Reading
     ensures { λ r. ⌜ r ≡ readingOf (now (s .entry)) ⌝ }
 {
     Reading {
-        name: read_name(s),
+        word: words::find(s),
         double: read_double(s),
         count: read_count(s),
     }
@@ -386,7 +267,7 @@ fn blank_reading() -> Reading
     ensures { λ r. ⌜ r ≡ blank ⌝ }
 {
     Reading {
-        name: Name::Other,
+        word: words::COUNT,
         double: ReadDouble::Malformed,
         count: ReadCount::Malformed,
     }
@@ -479,38 +360,30 @@ fn push(r: Reply, x: f64, m: bool) -> Reply
     }
 }
 
-fn entry(d: ReadDouble, n: Name) -> ReadEntry
-    ensures { λ r. ⌜ saysEntry r ≡ entryFrom (saysDouble d) n ⌝ }
+fn entry(d: ReadDouble, k: usize) -> ReadEntry
+    ensures { λ r. ⌜ saysEntry r ≡ entryFrom (saysDouble d) (eqb k (place "missing")) ⌝ }
 {
     match d {
         ReadDouble::Double(x) => ReadEntry::Given(x),
-        ReadDouble::Malformed => missing_or(n),
+        ReadDouble::Malformed => missing_or(k),
     }
 }
 
-fn missing_or(n: Name) -> ReadEntry
-    ensures { λ r. ⌜ saysEntry r ≡ missingOr n ⌝ }
+fn missing_or(k: usize) -> ReadEntry
+    ensures { λ r. ⌜ saysEntry r ≡ entryFrom none (eqb k (place "missing")) ⌝ }
 {
-    match n {
-        Name::Request(_) => ReadEntry::Malformed,
-        Name::Session(_) => ReadEntry::Malformed,
-        Name::Mark(m) => match m {
-            Mark::Speed => ReadEntry::Malformed,
-            Mark::Coefficient => ReadEntry::Malformed,
-            Mark::Plain => ReadEntry::Malformed,
-            Mark::Missing => ReadEntry::Missing,
-            Mark::Absent => ReadEntry::Malformed,
-        },
-        Name::Other => ReadEntry::Malformed,
+    if k == words::MISSING {
+        return ReadEntry::Missing;
     }
+    ReadEntry::Malformed
 }
 
 fn with_entry(r: Reply, w: Reading) -> Reply
-    ensures { λ q. ⌜ q ≡ withEntryOf r (entryFrom (saysDouble (w .double)) (w .name)) ⌝ }
+    ensures { λ q. ⌜ q ≡ withEntryOf r (entryFrom (saysDouble (w .double)) (eqb (w .word) (place "missing"))) ⌝ }
 {
     let d = w.double;
-    let n = w.name;
-    match entry(d, n) {
+    let k = w.word;
+    match entry(d, k) {
         ReadEntry::Malformed => Reply { sound: false, ..r },
         ReadEntry::Missing => push(r, 0.0, true),
         ReadEntry::Given(x) => push(r, x, false),
@@ -542,29 +415,21 @@ pub fn feed(l: Line, word: &[u8]) -> Line
     }
 }
 
-fn absent_or(n: Name) -> ReadSigma
-    ensures { λ r. ⌜ saysSigma r ≡ absentOr n ⌝ }
+fn absent_or(k: usize) -> ReadSigma
+    ensures { λ r. ⌜ saysSigma r ≡ sigmaFrom none (eqb k (place "none")) ⌝ }
 {
-    match n {
-        Name::Request(_) => ReadSigma::Malformed,
-        Name::Session(_) => ReadSigma::Malformed,
-        Name::Mark(m) => match m {
-            Mark::Speed => ReadSigma::Malformed,
-            Mark::Coefficient => ReadSigma::Malformed,
-            Mark::Plain => ReadSigma::Malformed,
-            Mark::Missing => ReadSigma::Malformed,
-            Mark::Absent => ReadSigma::Read(Sigma::Absent),
-        },
-        Name::Other => ReadSigma::Malformed,
+    if k == words::NONE {
+        return ReadSigma::Read(Sigma::Absent);
     }
+    ReadSigma::Malformed
 }
 
-fn sigma_in(d: ReadDouble, n: Name) -> ReadSigma
-    ensures { λ r. ⌜ saysSigma r ≡ sigmaFrom (saysDouble d) n ⌝ }
+fn sigma_in(d: ReadDouble, k: usize) -> ReadSigma
+    ensures { λ r. ⌜ saysSigma r ≡ sigmaFrom (saysDouble d) (eqb k (place "none")) ⌝ }
 {
     match d {
         ReadDouble::Double(x) => ReadSigma::Read(Sigma::Given(x)),
-        ReadDouble::Malformed => absent_or(n),
+        ReadDouble::Malformed => absent_or(k),
     }
 }
 
@@ -611,21 +476,16 @@ fn shot(f: Fields) -> ReadForm
     ReadForm::Shot(x, y, z)
 }
 
-fn prior_of(n: Name, x: f64, y: f64) -> ReadForm
-    ensures { λ r. ⌜ ((es : List Entry) → formSays es r ≡ priorBy n x y) ⌝ }
+fn prior_of(k: usize, x: f64, y: f64) -> ReadForm
+    ensures { λ r. ⌜ ((es : List Entry) → formSays es r ≡ priorBy (eqb k (place "speed")) (eqb k (place "coefficient")) x y) ⌝ }
 {
-    match n {
-        Name::Request(_) => ReadForm::Malformed,
-        Name::Session(_) => ReadForm::Malformed,
-        Name::Mark(m) => match m {
-            Mark::Speed => ReadForm::PriorSpeed(x, y),
-            Mark::Coefficient => ReadForm::PriorCoefficient(x, y),
-            Mark::Plain => ReadForm::Malformed,
-            Mark::Missing => ReadForm::Malformed,
-            Mark::Absent => ReadForm::Malformed,
-        },
-        Name::Other => ReadForm::Malformed,
+    if k == words::SPEED {
+        return ReadForm::PriorSpeed(x, y);
     }
+    if k == words::COEFFICIENT {
+        return ReadForm::PriorCoefficient(x, y);
+    }
+    ReadForm::Malformed
 }
 
 fn prior(f: Fields) -> ReadForm
@@ -637,7 +497,7 @@ fn prior(f: Fields) -> ReadForm
     let a = f.second;
     let b = f.third;
     let c = f.fourth;
-    let n = a.name;
+    let k = a.word;
     let p = b.double;
     let q = c.double;
     let ReadDouble::Double(x) = p else {
@@ -646,7 +506,7 @@ fn prior(f: Fields) -> ReadForm
     let ReadDouble::Double(y) = q else {
         return ReadForm::Malformed;
     };
-    prior_of(n, x, y)
+    prior_of(k, x, y)
 }
 
 fn distance(f: Fields) -> ReadForm
@@ -659,31 +519,23 @@ fn distance(f: Fields) -> ReadForm
     let b = f.third;
     let p = a.double;
     let q = b.double;
-    let n = b.name;
+    let k = b.word;
     let ReadDouble::Double(x) = p else {
         return ReadForm::Malformed;
     };
-    let ReadSigma::Read(t) = sigma_in(q, n) else {
+    let ReadSigma::Read(t) = sigma_in(q, k) else {
         return ReadForm::Malformed;
     };
     ReadForm::Distance(x, t)
 }
 
-fn open_by(n: Name) -> ReadForm
-    ensures { λ r. ⌜ ((es : List Entry) → formSays es r ≡ openOf n) ⌝ }
+fn open_by(k: usize) -> ReadForm
+    ensures { λ r. ⌜ ((es : List Entry) → formSays es r ≡ openOf (eqb k (place "plain"))) ⌝ }
 {
-    match n {
-        Name::Request(_) => ReadForm::Malformed,
-        Name::Session(_) => ReadForm::Malformed,
-        Name::Mark(m) => match m {
-            Mark::Speed => ReadForm::Malformed,
-            Mark::Coefficient => ReadForm::Malformed,
-            Mark::Plain => ReadForm::Open,
-            Mark::Missing => ReadForm::Malformed,
-            Mark::Absent => ReadForm::Malformed,
-        },
-        Name::Other => ReadForm::Malformed,
+    if k == words::PLAIN {
+        return ReadForm::Open;
     }
+    ReadForm::Malformed
 }
 
 fn open_form(f: Fields) -> ReadForm
@@ -693,8 +545,8 @@ fn open_form(f: Fields) -> ReadForm
         return ReadForm::Malformed;
     }
     let a = f.second;
-    let n = a.name;
-    open_by(n)
+    let k = a.word;
+    open_by(k)
 }
 
 fn put_in(f: Fields) -> ReadForm
@@ -709,14 +561,14 @@ fn put_in(f: Fields) -> ReadForm
     let k = a.count;
     let p = b.double;
     let q = c.double;
-    let n = c.name;
+    let w = c.word;
     let ReadCount::Count(place) = k else {
         return ReadForm::Malformed;
     };
     let ReadDouble::Double(x) = p else {
         return ReadForm::Malformed;
     };
-    let ReadSigma::Read(t) = sigma_in(q, n) else {
+    let ReadSigma::Read(t) = sigma_in(q, w) else {
         return ReadForm::Malformed;
     };
     ReadForm::PutIn(place, x, t)
@@ -734,14 +586,14 @@ fn exchange(f: Fields) -> ReadForm
     let k = a.count;
     let p = b.double;
     let q = c.double;
-    let n = c.name;
+    let w = c.word;
     let ReadCount::Count(place) = k else {
         return ReadForm::Malformed;
     };
     let ReadDouble::Double(x) = p else {
         return ReadForm::Malformed;
     };
-    let ReadSigma::Read(t) = sigma_in(q, n) else {
+    let ReadSigma::Read(t) = sigma_in(q, w) else {
         return ReadForm::Malformed;
     };
     ReadForm::Exchange(place, x, t)
@@ -788,29 +640,51 @@ fn drops_form(sound: bool) -> ReadForm
     ReadForm::Malformed
 }
 
-fn request_form(r: Request, f: Fields) -> ReadForm
-    ensures { λ q. ⌜ ((es : List Entry) → formSays es q ≡ requestIn r f) ⌝ }
+// The form by the place of its first word, where that begins a form of a session.
+fn session_form(k: usize, f: Fields, sound: bool) -> ReadForm
+    ensures { λ r. ⌜ ((es : List Entry) → formSays es r ≡ sessionIn es sound k f) ⌝ }
 {
-    match r {
-        Request::Entered => entered(f),
-        Request::Shot => shot(f),
-        Request::Prior => prior(f),
-        Request::Distance => distance(f),
-        Request::Open => open_form(f),
+    if k == words::DROPS {
+        return drops_form(sound);
     }
+    if k == words::REFUSED {
+        return refused(f);
+    }
+    if k == words::PUT_IN {
+        return put_in(f);
+    }
+    if k == words::TAKE_OUT {
+        return take_out(f);
+    }
+    if k == words::EXCHANGE {
+        return exchange(f);
+    }
+    if k == words::ASKED {
+        return asked(f);
+    }
+    ReadForm::Malformed
 }
 
-fn session_form(s: Session, f: Fields, sound: bool) -> ReadForm
-    ensures { λ r. ⌜ ((es : List Entry) → formSays es r ≡ sessionIn es sound s f) ⌝ }
+// The form by the place of its first word.
+fn named_form(k: usize, f: Fields, sound: bool) -> ReadForm
+    ensures { λ r. ⌜ ((es : List Entry) → formSays es r ≡ namedIn es sound k f) ⌝ }
 {
-    match s {
-        Session::Drops => drops_form(sound),
-        Session::Refused => refused(f),
-        Session::PutIn => put_in(f),
-        Session::TakeOut => take_out(f),
-        Session::Exchange => exchange(f),
-        Session::Asked => asked(f),
+    if k == words::ENTERED {
+        return entered(f);
     }
+    if k == words::SHOT {
+        return shot(f);
+    }
+    if k == words::PRIOR {
+        return prior(f);
+    }
+    if k == words::DISTANCE {
+        return distance(f);
+    }
+    if k == words::OPEN {
+        return open_form(f);
+    }
+    session_form(k, f, sound)
 }
 
 // What the words that are read come to, where the line ends there.
@@ -823,13 +697,7 @@ pub fn form(l: Line) -> ReadForm
     let f = l.fields;
     let p = l.reply;
     let w = f.first;
-    let n = w.name;
-    match n {
-        Name::Request(r) => request_form(r, f),
-        Name::Session(s) => session_form(s, f, p.sound),
-        Name::Mark(_) => ReadForm::Malformed,
-        Name::Other => ReadForm::Malformed,
-    }
+    named_form(w.word, f, p.sound)
 }
 
 fn take_closed(l: Line, word: &[u8], last: bool) -> Line

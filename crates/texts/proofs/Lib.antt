@@ -1,2 +1,2 @@
 -- The laws behind the functions' proofs.
-pub mod Counts
+pub mod Starts

@@ -5,7 +5,7 @@ use lib.Ieee.{binary64, ofBits, toBits}
 use Rattle.definition.specs.declared.Prior.the-variants.{Absent, Normal}
 use Rattle.definition.specs.declared.TruingUncertaintyWarningCodeV1.the-variants.{WeakBcSensitivity, IllConditionedData}
 use Rattle.forms.specs.Numbers.{glyphOf, doubleText, countText}
-use Rattle.forms.specs.Words.{bytes}
+use Rattle.words.specs.Words.{bytes}
 use Rattle.texts.specs.Texts.{led, joined, bracketed, normalText, priorsText, resultsText, warningText, warningsText, declinedText}
 
 -- a speed of 2000 with sigma 50 and no coefficient

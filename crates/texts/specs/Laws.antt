@@ -1,8 +1,10 @@
 -- How the parts of a text make the whole: fields in brackets, a list item by item, the warnings one after another, a report.
-use Prim.Native.Nat.{ℕ, zero, suc}
+use Prim.Native.Nat.{ℕ, zero, suc, _+_}
 use mathlib.Core.Path.{_≡_, refl, sym, ap, _∙_}
 use mathlib.Core.Bool.{Bool, true, false, _||_}
 use mathlib.Core.List.{List, [], _∷_, _++_, map, append-nil, append-assoc}
+use native.Mathlib.Nat.{add-zero}
+use native.Mathlib.Omega.{arith}
 use lib.ListN.{length}
 use Rattle.definition.specs.Summary.{Band, Diagnostics, warn}
 use Rattle.definition.specs.declared.TruingUncertaintyWarningCodeV1.{TruingUncertaintyWarningCodeV1}
@@ -12,10 +14,10 @@ use Rattle.report.specs.declared.Baseline.{Baseline}
 use Rattle.report.specs.declared.Baseline.the-variants.{Absent, Given}
 use Rattle.report.specs.declared.UncertaintyTruingReportV1.{UncertaintyTruingReportV1}
 use Rattle.report.specs.Report.{Results, seenOf, baselineSays}
-use Rattle.forms.specs.Words.{bytes}
+use Rattle.words.specs.Words.{bytes, wordAt}
 use Rattle.texts.specs.Writing.{Text}
 use Rattle.texts.specs.Texts.{led, joined, bracketed, resultsText, baselineText, diagnosticsText, bandsText, warningName, warningText, warningsText, reportText}
-use Rattle.texts.specs.Pieces.{before, headText, givenHead, baselineHead, baselineList, baselineEnd, middleText, endText, sumsText, pollsText, markText, firstMarks, lastMarks, anyFirst}
+use Rattle.texts.specs.Pieces.{before, headText, givenHead, baselineHead, baselineList, baselineEnd, middleText, endText, sumsText, pollsText, markText, marksOf, marksFrom, marksText}
 
 -- ---- fields
 
@@ -112,25 +114,39 @@ unfolding restText led joined
 mark-end true = refl
 mark-end false = refl
 
--- five marks, and then the codes that are left
-five-marks : (isLed a b c d e : Bool) (A B C D E : TruingUncertaintyWarningCodeV1) (left : List TruingUncertaintyWarningCodeV1)
-    → restText isLed (warn a A (warn b B (warn c C (warn d D (warn e E left)))))
-    ≡ (markText isLed a (warningName A) ++ (markText (isLed || a) b (warningName B) ++ (markText ((isLed || a) || b) c (warningName C)
-    ++ (markText (((isLed || a) || b) || c) d (warningName D) ++ markText ((((isLed || a) || b) || c) || d) e (warningName E)))))
-    ++ restText (((((isLed || a) || b) || c) || d) || e) left
-five-marks isLed a b c d e A B C D E left =
-    rw (mark-next isLed a A, mark-next (isLed || a) b B, mark-next ((isLed || a) || b) c C, mark-next (((isLed || a) || b) || c) d D, mark-next ((((isLed || a) || b) || c) || d) e E)
-    (simp append-assoc)
+-- the words of the warnings stand in the table one after another
+marks : (w : Warnings) → restText false (codesOf w) ≡ marksText (marksOf w)
+unfolding codes marksOf marksText wordAt
+marks w = simp (mark-next, mark-end)
 
-marks : (w : Warnings) → restText false (codesOf w) ≡ firstMarks w ++ lastMarks (anyFirst w) w
-unfolding codes firstMarks lastMarks anyFirst
-marks w =
-    five-marks false _ _ _ _ _ _ _ _ _ _ _
-    ∙ ap (λ (t : Text). firstMarks w ++ t) (five-marks (anyFirst w) _ _ _ _ _ _ _ _ _ _ [] ∙ ap (λ (t : Text). lastMarks (anyFirst w) w ++ t) (mark-end _) ∙ append-nil _)
+-- whether one stands
+abbrev pub anyOn : List Bool → Bool
+anyOn [] = false
+anyOn (on ∷ ons) = on || anyOn ons
 
-pub warnings-parts : (w : Warnings) → bytes "(" ++ (firstMarks w ++ (lastMarks (anyFirst w) w ++ bytes ")")) ≡ warningsText (codesOf w)
+or-end : (a : Bool) → (a || false) ≡ a
+or-end true = refl
+or-end false = refl
+
+or-more : (a b c : Bool) → ((a || b) || c) ≡ (a || (b || c))
+or-more true b c = refl
+or-more false b c = refl
+
+-- one more of the ten
+pub marks-more : (isLed : Bool) (k : ℕ) (ons : List Bool) (on : Bool)
+    → marksFrom isLed k (ons ++ (on ∷ [])) ≡ marksFrom isLed k ons ++ markText (isLed || anyOn ons) on (wordAt (k + length ons))
+marks-more isLed k [] on = simp (append-nil, or-end, add-zero)
+marks-more isLed k (a ∷ ons) on =
+    let e : suc k + length ons ≡ k + suc (length ons) = omega arith in
+    rw (marks-more (isLed || a) (suc k) ons on, or-more isLed a (anyOn ons), e, append-assoc)
+
+pub any-more : (ons : List Bool) (on : Bool) → (anyOn ons || on) ≡ anyOn (ons ++ (on ∷ []))
+any-more [] on = sym (or-end on)
+any-more (a ∷ ons) on = or-more a (anyOn ons) on ∙ ap (λ (b : Bool). a || b) (any-more ons on)
+
+pub warnings-parts : (w : Warnings) → bytes "(" ++ (marksText (marksOf w) ++ bytes ")") ≡ warningsText (codesOf w)
 unfolding warningsText bracketed restText
-warnings-parts w = ap (λ (s : Text). bytes "(" ++ s) (sym (append-assoc (firstMarks w) (lastMarks (anyFirst w) w) (bytes ")")) ∙ ap (λ (s : Text). s ++ bytes ")") (sym (marks w)))
+warnings-parts w = ap (λ (s : Text). bytes "(" ++ (s ++ bytes ")")) (sym (marks w))
 
 -- ---- the report
 

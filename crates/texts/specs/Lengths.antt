@@ -29,7 +29,7 @@ use Rattle.warnings.specs.Warnings.{codes, warningsBy}
 use Rattle.warnings.specs.Laws.{warnings-by}
 use Rattle.report.specs.Report.{Results}
 use Rattle.forms.specs.Numbers.{glyphOf, digitsOf, placesOf, doubleText, countText}
-use Rattle.forms.specs.Words.{bytes}
+use Rattle.words.specs.Words.{bytes}
 use Rattle.texts.specs.Writing.{Text}
 use Rattle.texts.specs.Texts.{
   led,
@@ -61,6 +61,8 @@ use Rattle.texts.specs.Texts.{
   kindName,
   questionText,
   declinedText,
+  askedText,
+  malformedText,
 }
 use Rattle.texts.specs.declared.Kind.{Kind}
 use Rattle.texts.specs.declared.Kind.the-variants as Kind
@@ -289,3 +291,11 @@ question-length kind mv bc = short _ (omega (arith, kind-length kind, double-len
 pub declined-length : (n position : ℕ) → length (declinedText n position) ≤ 53
 unfolding declinedText
 declined-length n position = short _ (omega (arith, count-length n, count-length position))
+
+pub asked-length : (n : ℕ) → length (askedText n) ≤ 29
+unfolding askedText
+asked-length n = short _ (omega (arith, count-length n))
+
+pub malformed-length : (n : ℕ) → length (malformedText n) ≤ 33
+unfolding malformedText
+malformed-length n = short _ (omega (arith, count-length n))

@@ -2,7 +2,6 @@
 use Prim.Native.Nat.{ℕ, zero, suc}
 use mathlib.Core.Bool.{Bool, false, _||_, cond}
 use mathlib.Core.List.{List, [], _∷_, _++_}
-use Rattle.interval.specs.Interval.{says}
 use Rattle.definition.specs.Meaning.{approximationSays}
 use Rattle.definition.specs.Summary.{Diagnostics}
 use Rattle.definition.specs.declared.WeightedTruingObservationResultV1.{WeightedTruingObservationResultV1}
@@ -14,7 +13,7 @@ use Rattle.report.specs.declared.Baseline.the-variants.{Absent, Given}
 use Rattle.report.specs.declared.TruingBaselineV1.{TruingBaselineV1}
 use Rattle.report.specs.declared.UncertaintyTruingReportV1.{UncertaintyTruingReportV1}
 use Rattle.forms.specs.Numbers.{doubleText, countText}
-use Rattle.forms.specs.Words.{bytes}
+use Rattle.words.specs.Words.{bytes, wordAt, place}
 use Rattle.texts.specs.Writing.{Text}
 use Rattle.texts.specs.Texts.{
   led,
@@ -97,31 +96,17 @@ pollsText d =
 unfoldable pub markText : Bool → Bool → Text → Text
 markText isLed on name = cond on (cond isLed (bytes " ") [] ++ bracketed (name ∷ [])) []
 
--- the first five of the ten, and the last five
-unfoldable pub firstMarks : Warnings → Text
-firstMarks w =
-    let a = w .«optimizer_did_not_converge» in
-    let b = a || w .«objective_mesh_convergence» in
-    let c = b || w .«weak_bc_sensitivity» in
-    let d = c || w .«ill_conditioned_data» in
-    markText false a (bytes "OptimizerDidNotConverge") ++
-    (markText a (w .«objective_mesh_convergence») (bytes "ObjectiveMeshConvergence") ++
-    (markText b (w .«weak_bc_sensitivity») (bytes "WeakBcSensitivity") ++
-    (markText c (w .«ill_conditioned_data») (bytes "IllConditionedData") ++
-    markText d (w .«mv_prior_dominated») (bytes "MvPriorDominated"))))
+-- which of the ten stand, in the order of their words
+unfoldable pub marksOf : Warnings → List Bool
+marksOf w =
+    w .«optimizer_did_not_converge» ∷ w .«objective_mesh_convergence» ∷ w .«weak_bc_sensitivity» ∷ w .«ill_conditioned_data» ∷ w .«mv_prior_dominated» ∷
+    w .«bc_prior_dominated» ∷ w .«gaussian_approximation_unavailable» ∷ w .«interval_crosses_fit_bounds» ∷ w .«low_effective_degrees_of_freedom» ∷
+    w .«prediction_outside_observed_domain» ∷ []
 
-unfoldable pub lastMarks : Bool → Warnings → Text
-lastMarks isLed w =
-    let a = isLed || w .«bc_prior_dominated» in
-    let b = a || w .«gaussian_approximation_unavailable» in
-    let c = b || w .«interval_crosses_fit_bounds» in
-    let d = c || w .«low_effective_degrees_of_freedom» in
-    markText isLed (w .«bc_prior_dominated») (bytes "BcPriorDominated") ++
-    (markText a (w .«gaussian_approximation_unavailable») (bytes "GaussianApproximationUnavailable") ++
-    (markText b (w .«interval_crosses_fit_bounds») (bytes "IntervalCrossesFitBounds") ++
-    (markText c (w .«low_effective_degrees_of_freedom») (bytes "LowEffectiveDegreesOfFreedom") ++
-    markText d (w .«prediction_outside_observed_domain») (bytes "PredictionOutsideObservedDomain"))))
+-- those that stand, the first of them with the word at k
+abbrev pub marksFrom : Bool → ℕ → List Bool → Text
+marksFrom isLed k [] = []
+marksFrom isLed k (on ∷ ons) = markText isLed on (wordAt k) ++ marksFrom (isLed || on) (suc k) ons
 
--- whether one of the first five stands
-unfoldable pub anyFirst : Warnings → Bool
-anyFirst w = (((w .«optimizer_did_not_converge» || w .«objective_mesh_convergence») || w .«weak_bc_sensitivity») || w .«ill_conditioned_data») || w .«mv_prior_dominated»
+unfoldable pub marksText : List Bool → Text
+marksText ons = marksFrom false (place "OptimizerDidNotConverge") ons

@@ -20,7 +20,7 @@ use Rattle.definition.specs.declared.TruingUncertaintyWarningCodeV1.{TruingUnce
 use Rattle.definition.specs.declared.TruingUncertaintyWarningCodeV1.the-variants as Warning
 use Rattle.definition.specs.Summary.{Baseline, Approximation, available, unavailable, Diagnostics, Band, Report}
 use Rattle.forms.specs.Numbers.{doubleText, countText}
-use Rattle.forms.specs.Words.{bytes}
+use Rattle.words.specs.Words.{bytes}
 use Rattle.texts.specs.Writing.{Text}
 use Rattle.texts.specs.declared.Kind.{Kind}
 use Rattle.texts.specs.declared.Kind.the-variants.{Shots, Distances, New}

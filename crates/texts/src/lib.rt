@@ -27,11 +27,11 @@ ghost use Rattle.definition.specs.Meaning.{numberOf, approximationSays};
 ghost use Rattle.summary.specs.Summary.{criterionSays, diagnosticsSays};
 ghost use Rattle.bands.specs.Bands.{bandSays};
 ghost use Rattle.warnings.specs.Warnings.{codesOf};
+ghost use Rattle.words.specs.Words.{bytes, wordAt};
 ghost use Rattle.forms.specs.Numbers.{doubleText, countText};
-ghost use Rattle.forms.specs.Words.{bytes};
 ghost use Rattle.texts.specs.Writing.{Writes};
 ghost use Rattle.texts.specs.Texts.{bracketed, orNone, truthText, numberText, criterionName, failureName, gaussianText, intervalText, normalText, priorText, priorsText, resultText, diagnosticsText, covarianceText, availableText, approximationText, bandText, warningsText, kindName, questionText, declinedText, askedText, malformedText};
-ghost use Rattle.texts.specs.Pieces.{before, headText, givenHead, baselineHead, baselineEnd, middleText, endText, sumsText, pollsText, markText, firstMarks, lastMarks, anyFirst};
+ghost use Rattle.texts.specs.Pieces.{before, headText, givenHead, baselineHead, baselineEnd, middleText, endText, sumsText, pollsText, markText, marksOf, marksText};
 
 // What the drops of a question are for: the observations, the requested distances, or the one distance that an edit brings.
 pub enum Kind {
@@ -91,7 +91,85 @@ pub fn put_count(out: &mut [u8], at: usize, n: u64) -> usize
     put_bytes(out, at, &digits[..len])
 }
 
+// The word at a place of the table.
+pub fn put_word(out: &mut [u8], at: usize, k: usize) -> usize
+    ensures { λ r. ⌜ Writes (now (out .entry)) at (now (out .exit)) r (wordAt k) ⌝ }
+{
+    let text = words::word(k);
+    let bytes = text.bytes;
+    let len = text.len;
+    put_bytes(out, at, &bytes[..len])
+}
+
+// The start of a record that begins with a word.
+fn put_start(out: &mut [u8], at: usize, k: usize) -> usize
+    ensures { λ r. ⌜ Writes (now (out .entry)) at (now (out .exit)) r (bytes "(" ++ (wordAt k ++ bytes " ")) ⌝ }
+{
+    let at = put_byte(out, at, b'(');
+    let at = put_word(out, at, k);
+    put_byte(out, at, b' ')
+}
+
+// ---- the words of codes: their places in the table
+
+fn truth_word(b: bool) -> usize
+    ensures { λ r. ⌜ wordAt r ≡ truthText b ⌝ }
+{
+    if b {
+        return words::YES;
+    }
+    words::NO
+}
+
+fn code_word(c: TruingMapConvergenceCriterionV1) -> usize
+    ensures { λ r. ⌜ wordAt r ≡ criterionName c ⌝ }
+{
+    match c {
+        TruingMapConvergenceCriterionV1::ScaledGradient => words::SCALED_GRADIENT,
+        TruingMapConvergenceCriterionV1::ObjectiveMesh => words::OBJECTIVE_MESH,
+    }
+}
+
+fn criterion_word(c: Criterion) -> usize
+    ensures { λ r. ⌜ wordAt r ≡ orNone criterionName (criterionSays c) ⌝ }
+{
+    match c {
+        Criterion::Absent => words::NONE,
+        Criterion::Given(code) => code_word(code),
+    }
+}
+
+fn failure_word(code: TruingApproximationFailureCodeV1) -> usize
+    ensures { λ r. ⌜ wordAt r ≡ failureName code ⌝ }
+{
+    match code {
+        TruingApproximationFailureCodeV1::OptimizerDidNotConverge =>
+            words::OPTIMIZER_DID_NOT_CONVERGE,
+        TruingApproximationFailureCodeV1::MapAtParameterBound => words::MAP_AT_PARAMETER_BOUND,
+        TruingApproximationFailureCodeV1::RankDeficientInformation =>
+            words::RANK_DEFICIENT_INFORMATION,
+        TruingApproximationFailureCodeV1::NonFiniteInformation => words::NON_FINITE_INFORMATION,
+    }
+}
+
+fn kind_word(k: Kind) -> usize
+    ensures { λ r. ⌜ wordAt r ≡ kindName k ⌝ }
+{
+    match k {
+        Kind::Shots => words::SHOTS,
+        Kind::Distances => words::DISTANCES,
+        Kind::New => words::NEW,
+    }
+}
+
 // ---- single fields; `led_..` writes a blank first
+
+fn led_word(out: &mut [u8], at: usize, k: usize) -> usize
+    ensures { λ r. ⌜ Writes (now (out .entry)) at (now (out .exit)) r (bytes " " ++ wordAt k) ⌝ }
+{
+    let at = put_byte(out, at, b' ');
+    put_word(out, at, k)
+}
 
 fn led_double(out: &mut [u8], at: usize, x: f64) -> usize
     ensures { λ r. ⌜ Writes (now (out .entry)) at (now (out .exit)) r (bytes " " ++ doubleText x) ⌝ }
@@ -107,20 +185,11 @@ fn led_count(out: &mut [u8], at: usize, n: u64) -> usize
     put_count(out, at, n)
 }
 
-pub fn put_truth(out: &mut [u8], at: usize, b: bool) -> usize
-    ensures { λ r. ⌜ Writes (now (out .entry)) at (now (out .exit)) r (truthText b) ⌝ }
-{
-    if b {
-        return put_bytes(out, at, b"yes");
-    }
-    put_bytes(out, at, b"no")
-}
-
 pub fn put_number(out: &mut [u8], at: usize, n: Number) -> usize
     ensures { λ r. ⌜ Writes (now (out .entry)) at (now (out .exit)) r (numberText (numberOf n)) ⌝ }
 {
     match n {
-        Number::Absent => put_bytes(out, at, b"none"),
+        Number::Absent => put_word(out, at, words::NONE),
         Number::Given(x) => put_double(out, at, x),
     }
 }
@@ -130,51 +199,6 @@ fn led_number(out: &mut [u8], at: usize, n: Number) -> usize
 {
     let at = put_byte(out, at, b' ');
     put_number(out, at, n)
-}
-
-fn put_code(out: &mut [u8], at: usize, c: TruingMapConvergenceCriterionV1) -> usize
-    ensures { λ r. ⌜ Writes (now (out .entry)) at (now (out .exit)) r (criterionName c) ⌝ }
-{
-    match c {
-        TruingMapConvergenceCriterionV1::ScaledGradient => put_bytes(out, at, b"ScaledGradient"),
-        TruingMapConvergenceCriterionV1::ObjectiveMesh => put_bytes(out, at, b"ObjectiveMesh"),
-    }
-}
-
-pub fn put_criterion(out: &mut [u8], at: usize, c: Criterion) -> usize
-    ensures { λ r. ⌜ Writes (now (out .entry)) at (now (out .exit)) r (orNone criterionName (criterionSays c)) ⌝ }
-{
-    match c {
-        Criterion::Absent => put_bytes(out, at, b"none"),
-        Criterion::Given(code) => put_code(out, at, code),
-    }
-}
-
-pub fn put_failure(out: &mut [u8], at: usize, code: TruingApproximationFailureCodeV1) -> usize
-    ensures { λ r. ⌜ Writes (now (out .entry)) at (now (out .exit)) r (failureName code) ⌝ }
-{
-    match code {
-        TruingApproximationFailureCodeV1::OptimizerDidNotConverge => put_bytes(
-            out,
-            at,
-            b"OptimizerDidNotConverge",
-        ),
-        TruingApproximationFailureCodeV1::MapAtParameterBound => put_bytes(
-            out,
-            at,
-            b"MapAtParameterBound",
-        ),
-        TruingApproximationFailureCodeV1::RankDeficientInformation => put_bytes(
-            out,
-            at,
-            b"RankDeficientInformation",
-        ),
-        TruingApproximationFailureCodeV1::NonFiniteInformation => put_bytes(
-            out,
-            at,
-            b"NonFiniteInformation",
-        ),
-    }
 }
 
 // ---- records
@@ -195,7 +219,7 @@ pub fn put_interval(out: &mut [u8], at: usize, i: Interval) -> usize
     ensures { λ r. ⌜ Writes (now (out .entry)) at (now (out .exit)) r (intervalText (says i)) ⌝ }
 {
     match i {
-        Interval::Absent => put_bytes(out, at, b"none"),
+        Interval::Absent => put_word(out, at, words::NONE),
         Interval::Present(g) => put_gaussian(out, at, g),
     }
 }
@@ -213,7 +237,7 @@ pub fn put_prior(out: &mut [u8], at: usize, p: Prior) -> usize
     ensures { λ r. ⌜ Writes (now (out .entry)) at (now (out .exit)) r (priorText p) ⌝ }
 {
     match p {
-        Prior::Absent => put_bytes(out, at, b"none"),
+        Prior::Absent => put_word(out, at, words::NONE),
         Prior::Normal(n) => put_normal(out, at, n),
     }
 }
@@ -270,8 +294,7 @@ fn put_polls(out: &mut [u8], at: usize, d: TruingUncertaintyDiagnosticsV1) -> us
     let at = put_double(out, at, d.bc_sensitivity_ratio);
     let at = led_double(out, at, d.data_condition_number);
     let at = led_double(out, at, d.map_scaled_gradient_inf_norm);
-    let at = put_byte(out, at, b' ');
-    let at = put_criterion(out, at, criterion);
+    let at = led_word(out, at, criterion_word(criterion));
     let at = led_number(out, at, radius);
     let at = led_number(out, at, improvement);
     let at = led_count(out, at, d.map_objective_poll_evaluations as u64);
@@ -301,7 +324,7 @@ fn put_available(out: &mut [u8], at: usize, g: TruingGaussianApproximationV1) ->
     let covariance = g.covariance;
     let speed = g.muzzle_velocity_interval_95;
     let coefficient = g.ballistic_coefficient_interval_95;
-    let at = put_bytes(out, at, b"(Available ");
+    let at = put_start(out, at, words::AVAILABLE);
     let at = put_covariance(out, at, covariance);
     let at = put_byte(out, at, b' ');
     let at = put_gaussian(out, at, speed);
@@ -318,8 +341,8 @@ pub fn put_approximation(out: &mut [u8], at: usize, a: TruingApproximationV1) ->
     match a {
         TruingApproximationV1::Available(g, _) => put_available(out, at, g),
         TruingApproximationV1::Unavailable(code) => {
-            let at = put_bytes(out, at, b"(Unavailable ");
-            let at = put_failure(out, at, code);
+            let at = put_start(out, at, words::UNAVAILABLE);
+            let at = put_word(out, at, failure_word(code));
             put_byte(out, at, b')')
         }
     }
@@ -357,100 +380,66 @@ fn put_blank(out: &mut [u8], at: usize, led: bool) -> usize
     put_bytes(out, at, b"")
 }
 
-fn put_warning<'a>(out: &'a mut [u8], at: usize, name: &'a [u8]) -> usize
-    ensures { λ r. ⌜ Writes (now (out .entry)) at (now (out .exit)) r (bracketed (now (name .entry) ∷ [])) ⌝ }
+fn put_warning(out: &mut [u8], at: usize, k: usize) -> usize
+    ensures { λ r. ⌜ Writes (now (out .entry)) at (now (out .exit)) r (bracketed (wordAt k ∷ [])) ⌝ }
 {
     let at = put_byte(out, at, b'(');
-    let at = put_bytes(out, at, name);
+    let at = put_word(out, at, k);
     put_byte(out, at, b')')
 }
 
-// The warning of this name where it is on, with a blank before it where it is led.
-fn put_mark<'a>(out: &'a mut [u8], at: usize, led: bool, on: bool, name: &'a [u8]) -> usize
-    ensures { λ r. ⌜ Writes (now (out .entry)) at (now (out .exit)) r (markText led on (now (name .entry))) ⌝ }
+// The warning of this word where it is on, with a blank before it where it is led.
+fn put_mark(out: &mut [u8], at: usize, led: bool, on: bool, k: usize) -> usize
+    ensures { λ r. ⌜ Writes (now (out .entry)) at (now (out .exit)) r (markText led on (wordAt k)) ⌝ }
 {
     if on {
         let at = put_blank(out, at, led);
-        return put_warning(out, at, name);
+        return put_warning(out, at, k);
     }
     put_bytes(out, at, b"")
 }
 
-fn any_first(w: Warnings) -> bool
-    ensures { λ r. ⌜ r ≡ anyFirst w ⌝ }
+// The ten in the order of their words.
+fn marks(w: Warnings) -> [bool; 10]
+    ensures { λ r. ⌜ r ≡ marksOf w ⌝ }
 {
-    w.optimizer_did_not_converge
-        | w.objective_mesh_convergence
-        | w.weak_bc_sensitivity
-        | w.ill_conditioned_data
-        | w.mv_prior_dominated
-}
-
-fn put_first_marks(out: &mut [u8], at: usize, w: Warnings) -> usize
-    ensures { λ r. ⌜ Writes (now (out .entry)) at (now (out .exit)) r (firstMarks w) ⌝ }
-{
-    let a = w.optimizer_did_not_converge;
-    let b = a | w.objective_mesh_convergence;
-    let c = b | w.weak_bc_sensitivity;
-    let d = c | w.ill_conditioned_data;
-    let at = put_mark(out, at, false, a, b"OptimizerDidNotConverge");
-    let at = put_mark(
-        out,
-        at,
-        a,
+    [
+        w.optimizer_did_not_converge,
         w.objective_mesh_convergence,
-        b"ObjectiveMeshConvergence",
-    );
-    let at = put_mark(out, at, b, w.weak_bc_sensitivity, b"WeakBcSensitivity");
-    let at = put_mark(out, at, c, w.ill_conditioned_data, b"IllConditionedData");
-    put_mark(out, at, d, w.mv_prior_dominated, b"MvPriorDominated")
+        w.weak_bc_sensitivity,
+        w.ill_conditioned_data,
+        w.mv_prior_dominated,
+        w.bc_prior_dominated,
+        w.gaussian_approximation_unavailable,
+        w.interval_crosses_fit_bounds,
+        w.low_effective_degrees_of_freedom,
+        w.prediction_outside_observed_domain,
+    ]
 }
 
-fn put_last_marks(out: &mut [u8], at: usize, led: bool, w: Warnings) -> usize
-    ensures { λ r. ⌜ Writes (now (out .entry)) at (now (out .exit)) r (lastMarks led w) ⌝ }
+// Those that are on, one blank between two.
+fn put_marks(out: &mut [u8], at: usize, on: [bool; 10]) -> usize
+    ensures { λ r. ⌜ Writes (now (out .entry)) at (now (out .exit)) r (marksText on) ⌝ }
 {
-    let a = led | w.bc_prior_dominated;
-    let b = a | w.gaussian_approximation_unavailable;
-    let c = b | w.interval_crosses_fit_bounds;
-    let d = c | w.low_effective_degrees_of_freedom;
-    let at = put_mark(out, at, led, w.bc_prior_dominated, b"BcPriorDominated");
-    let at = put_mark(
-        out,
-        at,
-        a,
-        w.gaussian_approximation_unavailable,
-        b"GaussianApproximationUnavailable",
-    );
-    let at = put_mark(
-        out,
-        at,
-        b,
-        w.interval_crosses_fit_bounds,
-        b"IntervalCrossesFitBounds",
-    );
-    let at = put_mark(
-        out,
-        at,
-        c,
-        w.low_effective_degrees_of_freedom,
-        b"LowEffectiveDegreesOfFreedom",
-    );
-    put_mark(
-        out,
-        at,
-        d,
-        w.prediction_outside_observed_domain,
-        b"PredictionOutsideObservedDomain",
-    )
+    let end = out.len();
+    let mut next = within(at, end);
+    let mut led = false;
+    let mut i = 0usize;
+    while i < 10 {
+        let here = on[i];
+        next = put_mark(out, next, led, here, words::OPTIMIZER_DID_NOT_CONVERGE + i);
+        led = led | here;
+        i += 1;
+    }
+    next
 }
 
 pub fn put_warnings(out: &mut [u8], at: usize, w: Warnings) -> usize
     ensures { λ r. ⌜ Writes (now (out .entry)) at (now (out .exit)) r (warningsText (codesOf w)) ⌝ }
 {
-    let led = any_first(w);
+    let on = marks(w);
     let at = put_byte(out, at, b'(');
-    let at = put_first_marks(out, at, w);
-    let at = put_last_marks(out, at, led, w);
+    let at = put_marks(out, at, on);
     put_byte(out, at, b')')
 }
 
@@ -461,13 +450,12 @@ pub fn put_head(out: &mut [u8], at: usize, p: UncertaintyTruingReportV1) -> usiz
     ensures { λ r. ⌜ Writes (now (out .entry)) at (now (out .exit)) r (headText p) ⌝ }
 {
     let priors = p.priors;
-    let at = put_bytes(out, at, b"(report ");
+    let at = put_start(out, at, words::REPORT);
     let at = put_count(out, at, p.schema_version as u64);
     let at = led_double(out, at, p.map_muzzle_velocity_fps);
     let at = led_double(out, at, p.map_ballistic_coefficient);
     let at = led_count(out, at, p.iterations as u64);
-    let at = put_byte(out, at, b' ');
-    let at = put_truth(out, at, p.converged);
+    let at = led_word(out, at, truth_word(p.converged));
     let at = put_byte(out, at, b' ');
     let at = put_priors(out, at, priors);
     put_byte(out, at, b' ')
@@ -478,7 +466,7 @@ pub fn put_baseline_head(out: &mut [u8], at: usize, b: Baseline) -> usize
     ensures { λ r. ⌜ Writes (now (out .entry)) at (now (out .exit)) r (baselineHead b) ⌝ }
 {
     match b {
-        Baseline::Absent => put_bytes(out, at, b" none"),
+        Baseline::Absent => led_word(out, at, words::NONE),
         Baseline::Given(g) => put_given_head(out, at, g),
     }
 }
@@ -559,21 +547,11 @@ pub fn put_next_band(out: &mut [u8], at: usize, i: usize, b: TruingPredictiveBan
 
 // ---- the other answers
 
-fn put_kind(out: &mut [u8], at: usize, k: Kind) -> usize
-    ensures { λ r. ⌜ Writes (now (out .entry)) at (now (out .exit)) r (kindName k) ⌝ }
-{
-    match k {
-        Kind::Shots => put_bytes(out, at, b"shots"),
-        Kind::Distances => put_bytes(out, at, b"distances"),
-        Kind::New => put_bytes(out, at, b"new"),
-    }
-}
-
 pub fn put_question(out: &mut [u8], at: usize, k: Kind, mv: f64, bc: f64) -> usize
     ensures { λ r. ⌜ Writes (now (out .entry)) at (now (out .exit)) r (questionText k mv bc) ⌝ }
 {
-    let at = put_bytes(out, at, b"(question ");
-    let at = put_kind(out, at, k);
+    let at = put_start(out, at, words::QUESTION);
+    let at = put_word(out, at, kind_word(k));
     let at = led_double(out, at, mv);
     let at = led_double(out, at, bc);
     put_byte(out, at, b')')
@@ -582,7 +560,7 @@ pub fn put_question(out: &mut [u8], at: usize, k: Kind, mv: f64, bc: f64) -> usi
 pub fn put_declined(out: &mut [u8], at: usize, n: u64, position: u64) -> usize
     ensures { λ r. ⌜ Writes (now (out .entry)) at (now (out .exit)) r (declinedText n position) ⌝ }
 {
-    let at = put_bytes(out, at, b"(declined ");
+    let at = put_start(out, at, words::DECLINED);
     let at = put_count(out, at, n);
     let at = led_count(out, at, position);
     put_byte(out, at, b')')
@@ -591,7 +569,7 @@ pub fn put_declined(out: &mut [u8], at: usize, n: u64, position: u64) -> usize
 pub fn put_asked(out: &mut [u8], at: usize, n: u64) -> usize
     ensures { λ r. ⌜ Writes (now (out .entry)) at (now (out .exit)) r (askedText n) ⌝ }
 {
-    let at = put_bytes(out, at, b"(asked ");
+    let at = put_start(out, at, words::ASKED);
     let at = put_count(out, at, n);
     put_byte(out, at, b')')
 }
@@ -599,7 +577,7 @@ pub fn put_asked(out: &mut [u8], at: usize, n: u64) -> usize
 pub fn put_malformed(out: &mut [u8], at: usize, n: u64) -> usize
     ensures { λ r. ⌜ Writes (now (out .entry)) at (now (out .exit)) r (malformedText n) ⌝ }
 {
-    let at = put_bytes(out, at, b"(malformed ");
+    let at = put_start(out, at, words::MALFORMED);
     let at = put_count(out, at, n);
     put_byte(out, at, b')')
 }

@@ -6,7 +6,6 @@ use mathlib.Core.List.{List, [], _∷_, _++_, map}
 use mathlib.Core.Option.{Option, some}
 use native.Mathlib.Omega.{arith}
 use lib.ListN.{take}
-use Rattle.forms.specs.Words.{bytes}
 use Rattle.definition.specs.Summary.{Band, Report}
 use Rattle.report.specs.Places.{bandAtSays}
 use Rattle.editing.specs.Meaning.{state}

@@ -6,7 +6,6 @@ use mathlib.Core.List.{List, [], _∷_, _++_, map}
 use mathlib.Core.Option.{Option, some}
 use native.Mathlib.Omega.{arith}
 use lib.ListN.{take}
-use Rattle.forms.specs.Words.{bytes}
 use Rattle.definition.specs.declared.WeightedTruingObservationResultV1.{WeightedTruingObservationResultV1}
 use Rattle.report.specs.Places.{resultSays}
 use Rattle.texts.specs.Writing.{Text, Writes, then, as-text, same-room, within, nothing}

@@ -1,6 +1,8 @@
 -- `forms::feed` meets its contract. Assumes nothing.
 use borrow.Author.Needs.{needs}
 use mathlib.Core.Path.{_∙_, ap}
+use lib.Dec.{eqb}
+use Rattle.words.specs.Words.{place}
 use Rattle.forms.specs.declared.Reading.{Reading}
 use Rattle.forms.specs.Numbers.{saysDouble}
 use Rattle.forms.specs.Lines.{entryFrom}
@@ -37,7 +39,7 @@ returns-3 c =
     let w = c .before .before .before .before .before .before .read-word in
     feed-next (a .l) (a .word .now) (c .before .before .before .before .with-field .result) (c .with-entry .result) (c .before .before .before .before .before .before .before .if1 .left) (c .before .before .if2 .left)
     (c .before .before .before .before .with-field .ensures ∙ ap (withFieldOf (a .l .fields .n) (a .l .fields)) (w .ensures))
-    (c .with-entry .ensures ∙ ap (λ (x : Reading). withEntryOf (a .l .reply) (entryFrom (saysDouble (x .double)) (x .name))) (w .ensures))
+    (c .with-entry .ensures ∙ ap (λ (x : Reading). withEntryOf (a .l .reply) (entryFrom (saysDouble (x .double)) (eqb (x .word) (place "missing")))) (w .ensures))
 
 pub feed-spec : {M : Type 1} → statement M
 feed-spec = tie.close (tie.spec spoiled-requires returns read-word-requires with-field-requires returns-2 with-entry-requires returns-3)

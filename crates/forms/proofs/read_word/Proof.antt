@@ -4,8 +4,8 @@ use Rattle.forms.proofs.Steps.{read-word}
 use Rattle.forms.proofs.read_word.Statement.{statement}
 use Rattle.forms.proofs.read_word.Tie as tie
 
-read-name-requires : tie.Need-read-name-requires
-read-name-requires c κs = search needs
+find-requires : tie.Need-find-requires
+find-requires c κs = search needs
 
 read-double-requires : tie.Need-read-double-requires
 read-double-requires c κs = search needs
@@ -14,7 +14,7 @@ read-count-requires : tie.Need-read-count-requires
 read-count-requires c κs = search needs
 
 returns : tie.Need-returns
-returns c = read-word (c .before .before .before .before .args .s .now) (c .before .before .read-name .result) (c .before .read-double .result) (c .read-count .result) (c .before .before .read-name .ensures) (c .before .read-double .ensures) (c .read-count .ensures)
+returns c = read-word (c .before .before .before .before .args .s .now) (c .before .before .find .result) (c .before .read-double .result) (c .read-count .result) (c .before .before .find .ensures) (c .before .read-double .ensures) (c .read-count .ensures)
 
 pub read-word-spec : {M : Type 1} → statement M
-read-word-spec = tie.close (tie.spec read-name-requires read-double-requires read-count-requires returns)
+read-word-spec = tie.close (tie.spec find-requires read-double-requires read-count-requires returns)

@@ -1,61 +1,62 @@
--- `forms::session_form` meets its contract. Assumes nothing.
+-- `forms::session_form` meets its contract: at each place the definition computes to its form. Assumes nothing.
 use borrow.Author.Needs.{needs}
+use borrow.Author.Tests.{ne-eqb}
 use Rattle.forms.proofs.session_form.Statement.{statement}
 use Rattle.forms.proofs.session_form.Tie as tie
-
-enum-told : tie.Need-enum-told
-enum-told c = search needs
 
 drops-form-requires : tie.Need-drops-form-requires
 drops-form-requires c κs = search needs
 
-enum-told-2 : tie.Need-enum-told-2
-enum-told-2 c = search needs
+returns : tie.Need-returns
+returns c = λ es. rw (c .before .if1 .taken) (c .drops-form .ensures es)
 
 refused-requires : tie.Need-refused-requires
 refused-requires c κs = search needs
 
-enum-told-3 : tie.Need-enum-told-3
-enum-told-3 c = search needs
+returns-2 : tie.Need-returns-2
+returns-2 c = λ es. rw (c .before .if2 .taken) (c .refused .ensures es)
 
 put-in-requires : tie.Need-put-in-requires
 put-in-requires c κs = search needs
 
-enum-told-4 : tie.Need-enum-told-4
-enum-told-4 c = search needs
+returns-3 : tie.Need-returns-3
+returns-3 c = λ es. rw (c .before .if3 .taken) (c .put-in .ensures es)
 
 take-out-requires : tie.Need-take-out-requires
 take-out-requires c κs = search needs
 
-enum-told-5 : tie.Need-enum-told-5
-enum-told-5 c = search needs
+returns-4 : tie.Need-returns-4
+returns-4 c = λ es. rw (c .before .if4 .taken) (c .take-out .ensures es)
 
 exchange-requires : tie.Need-exchange-requires
 exchange-requires c κs = search needs
 
-enum-told-6 : tie.Need-enum-told-6
-enum-told-6 c = search needs
+returns-5 : tie.Need-returns-5
+returns-5 c = λ es. rw (c .before .if5 .taken) (c .exchange .ensures es)
 
 asked-requires : tie.Need-asked-requires
 asked-requires c κs = search needs
 
-returns : tie.Need-returns
-returns c = λ es. simp (c .before .enum-told .given .1, ← c .drops-form .ensures es)
-
-returns-2 : tie.Need-returns-2
-returns-2 c = λ es. simp (c .before .enum-told2 .given .1, ← c .refused .ensures es)
-
-returns-3 : tie.Need-returns-3
-returns-3 c = λ es. simp (c .before .enum-told3 .given .1, ← c .put-in .ensures es)
-
-returns-4 : tie.Need-returns-4
-returns-4 c = λ es. simp (c .before .enum-told4 .given .1, ← c .take-out .ensures es)
-
-returns-5 : tie.Need-returns-5
-returns-5 c = λ es. simp (c .before .enum-told5 .given .1, ← c .exchange .ensures es)
-
 returns-6 : tie.Need-returns-6
-returns-6 c = λ es. simp (c .before .enum-told6 .given .1, ← c .asked .ensures es)
+returns-6 c = λ es. rw (c .before .if6 .taken) (c .asked .ensures es)
+
+returns-7 : tie.Need-returns-7
+returns-7 c = λ es. rw (ne-eqb _ _ (c .before .before .before .before .before .if1 .left), ne-eqb _ _ (c .before .before .before .before .if2 .left), ne-eqb _ _ (c .before .before .before .if3 .left), ne-eqb _ _ (c .before .before .if4 .left), ne-eqb _ _ (c .before .if5 .left), ne-eqb _ _ (c .if6 .left))
 
 pub session-form-spec : {M : Type 1} → statement M
-session-form-spec = tie.close (tie.spec enum-told drops-form-requires enum-told-2 refused-requires enum-told-3 put-in-requires enum-told-4 take-out-requires enum-told-5 exchange-requires enum-told-6 asked-requires returns returns-2 returns-3 returns-4 returns-5 returns-6)
+session-form-spec =
+    tie.close
+    (tie.spec
+    drops-form-requires
+    returns
+    refused-requires
+    returns-2
+    put-in-requires
+    returns-3
+    take-out-requires
+    returns-4
+    exchange-requires
+    returns-5
+    asked-requires
+    returns-6
+    returns-7)

@@ -1,5 +1,6 @@
 -- `texts::put_approximation` meets its contract. Assumes nothing.
 use borrow.Author.Needs.{needs}
+use Rattle.words.specs.Words.{wordAt}
 use Rattle.texts.specs.Writing.{then, as-text, same-room}
 use Rattle.texts.specs.Laws.{in-brackets}
 use Rattle.texts.specs.Texts.{approximationText}
@@ -15,14 +16,14 @@ put-available-requires c κs = search needs
 enum-known-a-2 : tie.Need-enum-known-a-2
 enum-known-a-2 c = search needs
 
-slice-aggregate-put-bytes : tie.Need-slice-aggregate-put-bytes
-slice-aggregate-put-bytes c = search needs
+put-start-requires : tie.Need-put-start-requires
+put-start-requires c κs = search needs
 
-put-bytes-requires : tie.Need-put-bytes-requires
-put-bytes-requires c κs = search needs
+failure-word-requires : tie.Need-failure-word-requires
+failure-word-requires c κs = search needs
 
-put-failure-requires : tie.Need-put-failure-requires
-put-failure-requires c κs = search needs
+put-word-requires : tie.Need-put-word-requires
+put-word-requires c κs = search needs
 
 put-byte-requires : tie.Need-put-byte-requires
 put-byte-requires c κs = search needs
@@ -31,15 +32,15 @@ same-length : tie.Need-same-length
 same-length c = same-room (c .before .before .put-available .ensures)
 
 returns : tie.Need-returns
-unfolding approximationText
+unfolding approximationText wordAt
 returns c = as-text (c .before .before .put-available .ensures) (simp (c .before .before .before .before .before .a .given .1))
 
 same-length-2 : tie.Need-same-length-2
-same-length-2 c = same-room (then (c .before .before .before .before .before .before .before .before .before .before .put-bytes .ensures) (then (c .before .before .before .before .before .before .put-failure .ensures) (c .before .before .put-byte .ensures)))
+same-length-2 c = search needs
 
 returns-2 : tie.Need-returns-2
-unfolding approximationText
-returns-2 c = as-text (then (c .before .before .before .before .before .before .before .before .before .before .put-bytes .ensures) (then (c .before .before .before .before .before .before .put-failure .ensures) (c .before .before .put-byte .ensures))) (simp (c .before .before .before .before .before .before .before .before .before .before .before .before .before .before .a2 .given .1) (in-brackets _))
+unfolding approximationText wordAt
+returns-2 c = as-text (then (c .before .before .before .before .before .before .before .before .before .before .before .put-start .ensures) (then (as-text (c .before .before .before .before .before .before .put-word .ensures) (c .before .before .before .before .before .before .before .failure-word .ensures)) (c .before .before .put-byte .ensures))) (simp (c .before .before .before .before .before .before .before .before .before .before .before .before .before .before .a2 .given .1) (in-brackets _))
 
 pub put-approximation-spec : {M : Type 1} → statement M
 put-approximation-spec =
@@ -48,9 +49,9 @@ put-approximation-spec =
     enum-known-a
     put-available-requires
     enum-known-a-2
-    slice-aggregate-put-bytes
-    put-bytes-requires
-    put-failure-requires
+    put-start-requires
+    failure-word-requires
+    put-word-requires
     put-byte-requires
     same-length
     returns

@@ -2,7 +2,7 @@
 use borrow.Author.Needs.{needs}
 use Rattle.forms.specs.Numbers.{countText}
 use Rattle.texts.specs.Writing.{as-text}
-use Rattle.texts.proofs.Counts.{digits-fit, digits-length, digits-text}
+use Rattle.texts.proofs.Starts.{text-fits, text-length, text-there}
 use Rattle.texts.proofs.put_count.Statement.{statement}
 use Rattle.texts.proofs.put_count.Tie as tie
 
@@ -10,10 +10,10 @@ write-count-requires : tie.Need-write-count-requires
 write-count-requires c κs = search needs
 
 array-share-prefix-digits : tie.Need-array-share-prefix-digits
-array-share-prefix-digits c = digits-fit (countText (c .before .before .before .before .args .n)) (c .before .before .write-count .ensures)
+array-share-prefix-digits c = text-fits (countText (c .before .before .before .before .args .n)) _ (c .before .before .write-count .ensures)
 
 slice-aggregate-put-bytes : tie.Need-slice-aggregate-put-bytes
-slice-aggregate-put-bytes c = digits-length (countText (c .before .before .before .before .before .args .n)) (c .before .before .before .write-count .ensures)
+slice-aggregate-put-bytes c = text-length (countText (c .before .before .before .before .before .args .n)) _ (c .before .before .before .write-count .ensures)
 
 put-bytes-requires : tie.Need-put-bytes-requires
 put-bytes-requires c κs = search needs
@@ -22,7 +22,7 @@ same-length : tie.Need-same-length
 same-length c = search needs
 
 returns : tie.Need-returns
-returns c = as-text (c .before .before .put-bytes .ensures) (digits-text _ (c .before .before .before .before .before .before .write-count .ensures))
+returns c = as-text (c .before .before .put-bytes .ensures) (text-there _ _ (c .before .before .before .before .before .before .write-count .ensures))
 
 pub put-count-spec : {M : Type 1} → statement M
 put-count-spec =

@@ -2,7 +2,7 @@
 use borrow.Author.Needs.{needs}
 use Rattle.texts.specs.Writing.{then, as-text, same-room}
 use Rattle.texts.specs.Laws.{after}
-use Rattle.forms.specs.Words.{bytes}
+use Rattle.words.specs.Words.{bytes}
 use Rattle.texts.specs.Pieces.{givenHead}
 use Rattle.texts.proofs.put_given_head.Statement.{statement}
 use Rattle.texts.proofs.put_given_head.Tie as tie

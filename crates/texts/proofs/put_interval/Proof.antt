@@ -1,5 +1,6 @@
 -- `texts::put_interval` meets its contract. Assumes nothing.
 use borrow.Author.Needs.{needs}
+use Rattle.words.specs.Words.{wordAt}
 use Rattle.texts.specs.Writing.{as-text, same-room}
 use Rattle.texts.proofs.put_interval.Statement.{statement}
 use Rattle.texts.proofs.put_interval.Tie as tie
@@ -7,11 +8,8 @@ use Rattle.texts.proofs.put_interval.Tie as tie
 enum-told : tie.Need-enum-told
 enum-told c = search needs
 
-slice-aggregate-put-bytes : tie.Need-slice-aggregate-put-bytes
-slice-aggregate-put-bytes c = search needs
-
-put-bytes-requires : tie.Need-put-bytes-requires
-put-bytes-requires c κs = search needs
+put-word-requires : tie.Need-put-word-requires
+put-word-requires c κs = search needs
 
 enum-known-i : tie.Need-enum-known-i
 enum-known-i c = search needs
@@ -20,15 +18,17 @@ put-gaussian-requires : tie.Need-put-gaussian-requires
 put-gaussian-requires c κs = search needs
 
 same-length : tie.Need-same-length
-same-length c = same-room (c .before .before .put-bytes .ensures)
+same-length c = same-room (c .before .before .put-word .ensures)
 
 returns : tie.Need-returns
-returns c = as-text (c .before .before .put-bytes .ensures) (simp (c .before .before .before .before .before .enum-told .given .1))
+unfolding wordAt
+returns c = as-text (c .before .before .put-word .ensures) (simp (c .before .before .before .before .enum-told .given .1))
 
 same-length-2 : tie.Need-same-length-2
 same-length-2 c = same-room (c .before .before .put-gaussian .ensures)
 
 returns-2 : tie.Need-returns-2
+unfolding wordAt
 returns-2 c = as-text (c .before .before .put-gaussian .ensures) (simp (c .before .before .before .before .before .i .given .1))
 
 pub put-interval-spec : {M : Type 1} → statement M
@@ -36,8 +36,7 @@ put-interval-spec =
     tie.close
     (tie.spec
     enum-told
-    slice-aggregate-put-bytes
-    put-bytes-requires
+    put-word-requires
     enum-known-i
     put-gaussian-requires
     same-length

@@ -8,19 +8,19 @@ use Rattle.texts.proofs.put_warning.Tie as tie
 put-byte-requires : tie.Need-put-byte-requires
 put-byte-requires c κs = search needs
 
-put-bytes-requires : tie.Need-put-bytes-requires
-put-bytes-requires c κs = search needs
+put-word-requires : tie.Need-put-word-requires
+put-word-requires c κs = search needs
 
 put-byte-requires-2 : tie.Need-put-byte-requires-2
 put-byte-requires-2 c κs = search needs
 
 same-length : tie.Need-same-length
-same-length c = same-room (then (c .before .before .before .before .before .before .before .before .before .before .put-byte .ensures) (then (c .before .before .before .before .before .before .put-bytes .ensures) (c .before .before .put-byte2 .ensures)))
+same-length c = same-room (then (c .before .before .before .before .before .before .before .before .before .before .put-byte .ensures) (then (c .before .before .before .before .before .before .put-word .ensures) (c .before .before .put-byte2 .ensures)))
 
 returns : tie.Need-returns
-returns c = as-text (then (c .before .before .before .before .before .before .before .before .before .before .put-byte .ensures) (then (c .before .before .before .before .before .before .put-bytes .ensures) (c .before .before .put-byte2 .ensures))) (in-brackets _)
+returns c = as-text (then (c .before .before .before .before .before .before .before .before .before .before .put-byte .ensures) (then (c .before .before .before .before .before .before .put-word .ensures) (c .before .before .put-byte2 .ensures))) (in-brackets _)
 
 pub put-warning-spec : {M : Type 1} → statement M
 put-warning-spec =
     tie.close
-    (tie.spec put-byte-requires put-bytes-requires put-byte-requires-2 same-length returns)
+    (tie.spec put-byte-requires put-word-requires put-byte-requires-2 same-length returns)
