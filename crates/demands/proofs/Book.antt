@@ -21,7 +21,8 @@ use Rattle.fresh.proofs.Reports.{only-band}
 use Rattle.session.specs.Meaning.{Said, report, refusal, head, kindOf, sizesFor, wants, rightLength}
 use Rattle.demands.specs.Calls.{Call, reply, refusePoint, change, resume, Editing, At, first, rest, keptBy, finishedBy, finishedAt, reportBy, Taking, declines, takes, takingReply, takingRefusal, takingEdit, stance, withReply, withEdit, taken, unlessDeclined, after, due, dueTo}
 use Rattle.demands.specs.Book.{sizeOf, heard, Where, inRun, idle, inEdit, Book, isReport, opened, reports, ruledReply, ruledRefusal, ruledEdit, ruled, standsBy, settled, editHeard, runHeard, replyHeard, callHeard, booked, Question, aboutOf, questionIn, Trail, repliesWith, begun, followed, Replies, Comes, FromSolver, saidBy, reportFrom, Ends, Edits, standing, Holds}
-use Rattle.demands.proofs.Questions.{Only, only-whole, only-edit}
+use Rattle.demands.specs.Standing.{Only}
+use Rattle.demands.proofs.Questions.{only-whole, only-edit}
 
 -- ---- in general
 

@@ -34,7 +34,8 @@ use Rattle.demands.specs.Book.{heard, opened, ruled, Ends, Edits, standi
 use Rattle.demands.specs.Demands as stated
 use Rattle.demands.specs.Demands.{Made, Meets, Chained, Throughout, ReadsAs, checked, OpensProperly, countedSaid, mostOf, EndsProperly, Demand1, OpensAsDefined, AsDefined, Demand2, Changes, editedFrom, nextTrail, AllFrom, OpensFresh, EndsFresh, beforeEdit, Along, Demand3}
 use Rattle.demands.specs.Example as example
-use Rattle.demands.proofs.Questions.{Only, only-edit}
+use Rattle.demands.specs.Standing.{Only, IsNew, News, Inv}
+use Rattle.demands.proofs.Questions.{only-edit}
 use Rattle.demands.proofs.Book.{resume-more, rest-more, kept-more, Agrees, agrees-first, agrees-ruled, agrees-next, agrees-holds, agrees-changes, agrees-opened, opened-stops}
 
 -- ---- the count
@@ -115,29 +116,13 @@ reads-as s p same = record {
   bands = λ i r d. d .is ∙ ap (placeIn (λ q. q .bands) i) same;
 }
 
-report-after : (kept : Option Finished) (t : Run Finished) → reportIn (meaning.after kept t) ≡ reportBy (finishedBy kept t)
+pub report-after : (kept : Option Finished) (t : Run Finished) → reportIn (meaning.after kept t) ≡ reportBy (finishedBy kept t)
 report-after kept (done c) = refl
 report-after none (refuse n i) = refl
 report-after (some c) (refuse n i) = refl
 report-after kept (ask p w k) = refl
 
 -- ---- the invariant
-
-abbrev IsNew : Which → Type 0
-IsNew shots = ⊥
-IsNew distances = ⊥
-IsNew (new d) = Unit {0}
-
--- an edit's questions are about its new distance alone
-abbrev News : Option Editing → Run Finished → Type 0
-News none t = Unit {0}
-News (some x) t = Only IsNew t
-
-record Inv (o : Opening) (t : At) (s : Session) : Type 0 where
-  leads : state s ≡ meaning.after (keptBy (t .last)) (rest o t)
-  sized : Sized (keptBy (t .last)) (sizesFor o) (sizes s)
-  news : News (t .last) (rest o t)
-  counts : stated.count s ≡ put (whole o) (t .run)
 
 inv-reads : (o : Opening) (t : At) (s : Session) → Inv o t s → ReadsAs s (reportBy (finishedAt o t))
 inv-reads o t s h = reads-as s (reportBy (finishedAt o t)) (ap reportIn (h .leads) ∙ report-after (keptBy (t .last)) (rest o t))
@@ -175,10 +160,10 @@ numbers q = cc
 
 -- ---- one call
 
-record Good (o : Opening) (t : At) (s : Session) (c : Made) : Type 0 where
-  inv : Inv o (after o t (c .call)) (c .answer .session)
-  proper : EndsProperly o t s c
-  defined : AsDefined o t s c
+pub record Good (o : Opening) (t : At) (s : Session) (c : Made) : Type 0 where
+  pub inv : Inv o (after o t (c .call)) (c .answer .session)
+  pub proper : EndsProperly o t s c
+  pub defined : AsDefined o t s c
 
 module _ (o : Opening) where
   limited : (rs : List Reply) (n : ℕ) → n ≡ put (whole o) rs → n ≤ 4546
@@ -369,7 +354,7 @@ module _ (o : Opening) where
             (record { leads = d .leads; sized = tt; news = news-edit c e; counts = d .counts ∙ h .counts }) (d .says) (d .counts)
         by false g d = no t s h _ 15 g d
 
-    step : (x : Call) (a : Answer) → Meets x s a → Good o t s (record { call = x; answer = a })
+    pub step : (x : Call) (a : Answer) → Meets x s a → Good o t s (record { call = x; answer = a })
     step (reply ds ms) a m = replied ds ms a m (rest o t) refl
     step refusePoint a m = pointed a m (rest o t) refl
     step (change e) a m = changed e a m (finishedAt o t) refl
@@ -380,7 +365,7 @@ module _ (o : Opening) where
   first-count : (t : Run Finished) → counted none 0 t ≡ put t []
   first-count t = counted-plus 0 t (omega arith) ∙ sym (first-put t)
 
-  begins : (a : Answer) → Opened o a → Inv o first (a .session)
+  pub begins : (a : Answer) → Opened o a → Inv o first (a .session)
   begins a m = record { leads = m .is .leads; sized = m .is .sized; news = tt; counts = m .is .counts ∙ first-count (whole o) }
 
   checks-first : whole o ≡ bind (checked o) (λ u. run (o .measured) (o .requested))

@@ -29,7 +29,14 @@ pub fn open<'a>(
     ensures { λ r. ⌜ Opened (openingOf entered (now (ranges .entry)) (now (drops .entry)) (now (sigmas .entry)) priors (now (distances .entry)) (now (future .entry)) (now (given .entry))) r ⌝ }
 {
     editing::open(
-        entered, ranges, drops, sigmas, priors, distances, future, given,
+        entered,
+        ranges,
+        drops,
+        sigmas,
+        priors,
+        distances,
+        future,
+        given,
     )
 }
 
