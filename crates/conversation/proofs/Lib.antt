@@ -1,0 +1,3 @@
+pub mod Standing
+pub mod Responses
+pub mod Replies
