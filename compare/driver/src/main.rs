@@ -1,9 +1,11 @@
 //! `compare N [SEED]`: random cases against a program that speaks PROTOCOL.md.
 //! See compare/README.md.
 
+mod bytes;
 mod case;
 mod edits;
 mod facts;
+mod inputs;
 mod player;
 mod program;
 mod rng;
@@ -44,14 +46,15 @@ fn arguments() -> Result<Arguments, String> {
 }
 
 /// The program under test; without one, the oracle compared with itself.
+fn path(arguments: &Arguments) -> PathBuf {
+    arguments.program.clone().unwrap_or_else(|| {
+        let own = std::env::current_exe().expect("the path of this program");
+        own.with_file_name("oracle")
+    })
+}
+
 fn program(arguments: &Arguments) -> Program {
-    match &arguments.program {
-        Some(path) => Program::new(path.clone()),
-        None => {
-            let own = std::env::current_exe().expect("the path of this program");
-            Program::new(own.with_file_name("oracle"))
-        }
-    }
+    Program::new(path(arguments))
 }
 
 fn number(word: Option<&String>, default: u64) -> Result<u64, String> {
@@ -74,6 +77,10 @@ fn main() -> ExitCode {
                 let index = number(words.get(1), 0)?;
                 show(index, number(words.get(2), 1)?);
                 Ok(true)
+            }
+            Some("bytes") => {
+                let first = number(words.get(3), 0)?;
+                Ok(bytes::compare(&path(&arguments), count()?, seed()?, first))
             }
             Some("edits") => Ok(edited(&arguments, count()?, seed()?)),
             Some(other) => Err(format!("unknown mode {other}")),

@@ -38,6 +38,29 @@ pub fn serve(host: &mut dyn Host, variant: Variant, line: &mut u64) {
     }
 }
 
+/// The whole standard output for a whole standard input.
+pub fn answers(input: &[u8], variant: Variant) -> Vec<u8> {
+    struct Whole<'i> {
+        rest: &'i [u8],
+        output: Vec<u8>,
+    }
+    impl Host for Whole<'_> {
+        fn line(&mut self) -> Option<Vec<u8>> {
+            let feed = self.rest.iter().position(|byte| *byte == b'\n');
+            let (line, rest) = self.rest.split_at(feed.map_or(self.rest.len(), |at| at + 1));
+            self.rest = rest;
+            (!line.is_empty()).then(|| line.to_vec())
+        }
+        fn answer(&mut self, text: &str) {
+            self.output.extend_from_slice(text.as_bytes());
+            self.output.push(b'\n');
+        }
+    }
+    let mut whole = Whole { rest: input, output: Vec::new() };
+    serve(&mut whole, variant, &mut 0);
+    whole.output
+}
+
 /// A line that is for the session.
 enum Call {
     Open,
