@@ -35,9 +35,12 @@ saidText (refusal number position) p = declinedText number position
 unfoldable pub answerText : Answer → Text
 answerText a = saidText (said (a .step)) (reportIn (state (a .session)))
 
--- an answer's line: its text and the line feed
+-- a text as a line, with its line feed
+abbrev pub line : Text → Text
+line text = text ++ (10 ∷ [])
+
 abbrev pub lineText : Answer → Text
-lineText a = answerText a ++ (10 ∷ [])
+lineText a = line (answerText a)
 
 -- The line of every answer, whatever its step and its session, fits the 32,768 bytes that the program has for it, so that nothing of it is left out. Theorem `answer-fits`.
 abbrev pub AnswerFits : Type 0

@@ -34,9 +34,9 @@ use Rattle.texts.specs.Writing.{Text, Writes}
 use Rattle.texts.specs.Lengths.{asked-length, malformed-length}
 use Rattle.texts.specs.Texts.{askedText, malformedText}
 use Rattle.answers.specs.Answers as answers
-use Rattle.answers.specs.Answers.{saidText}
+use Rattle.answers.specs.Answers.{saidText, line}
 use Rattle.answers.proofs.Fits.{answer-fits}
-use Rattle.conversation.specs.Conversation.{Conversation, Answer, malformedAt, Answered, line, answerText, malformedLine, collected, inPlace, opens, calls, dropOf, isMissing, replyOf, nextLine, answerTo}
+use Rattle.conversation.specs.Conversation.{Conversation, Answer, malformedAt, Answered, answerText, malformedLine, collected, inPlace, opens, calls, dropOf, isMissing, replyOf, nextLine, answerTo}
 use Rattle.requests.specs.Kept.{kept, openingIn, Keeps}
 use Rattle.conversation.specs.Tracks.{Stands, Tracks, responseSays, responseText, Responds, Fills}
 use Rattle.conversation.specs.declared.Section.{Section}

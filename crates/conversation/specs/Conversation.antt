@@ -14,7 +14,7 @@ use Rattle.demands.specs.Calls.{Call, reply, refusePoint, change, At, first, fi
 use Rattle.forms.specs.Lines.{Entry, missing, given, Form, malformed, entered, shot, priorSpeed, priorCoefficient, distance, openPlain, drops, refused, putIn, takeOut, exchange, asked}
 use Rattle.texts.specs.Writing.{Text}
 use Rattle.texts.specs.Texts.{askedText, malformedText}
-use Rattle.answers.specs.Answers.{saidText}
+use Rattle.answers.specs.Answers.{saidText, line}
 use Rattle.requests.specs.Request.{emptyRequest, withShot, withSpeed, withCoefficient, withDistance, normal, requestedAt}
 use Rattle.conversation.specs.declared.Section.{Section}
 use Rattle.conversation.specs.declared.Section.the-variants.{Closed, Shots, Priors, Distances}
@@ -131,9 +131,6 @@ answerTo t (exchange place range sigma) = calls t (change (edits.exchange place 
 answerTo t asked = (t, count (put (whole (t .opening)) (t .at .run)))
 
 -- ---- texts
-
-abbrev pub line : Text → Text
-line text = text ++ (10 ∷ [])
 
 -- what is said comes with the report that stands then
 abbrev pub answerText : Conversation → Answer → Text

@@ -15,8 +15,8 @@ use Rattle.demands.specs.Calls.{At, first}
 use Rattle.demands.specs.Standing.{Inv}
 use Rattle.texts.specs.Writing.{Text}
 use Rattle.texts.specs.Texts.{askedText, malformedText}
-use Rattle.answers.specs.Answers.{saidText}
-use Rattle.conversation.specs.Conversation.{Conversation, Answer, nothing, malformedAt, count, says, Answered, nextLine, answerTo, line, textOf, unendedText}
+use Rattle.answers.specs.Answers.{saidText, line}
+use Rattle.conversation.specs.Conversation.{Conversation, Answer, nothing, malformedAt, count, says, Answered, nextLine, answerTo, textOf, unendedText}
 use Rattle.requests.specs.Kept.{kept, Keeps}
 use Rattle.conversation.specs.declared.Conversation.{Conversation as Held}
 use Rattle.conversation.specs.declared.Response.{Response}

@@ -19,11 +19,11 @@ ghost use Rattle.forms.specs.Lines.{entered, shot, priorSpeed, priorCoefficient
 ghost use Rattle.forms.specs.Reading.{sigmaSays, entriesIn, formIn};
 ghost use Rattle.texts.specs.Writing.{Writes};
 ghost use Rattle.texts.specs.Texts.{askedText, malformedText};
-ghost use Rattle.answers.specs.Answers.{saidText};
+ghost use Rattle.answers.specs.Answers.{saidText, line};
 ghost use Rattle.requests.specs.Request.{requestedAt};
 ghost use Rattle.requests.specs.Kept.{Keeps};
 ghost use Rattle.conversation.specs.Conversation as defined;
-ghost use Rattle.conversation.specs.Conversation.{takesShot, takesCoefficient, takesDistance, malformedLine, calls, answerTo, nextLine, initial, line};
+ghost use Rattle.conversation.specs.Conversation.{takesShot, takesCoefficient, takesDistance, malformedLine, calls, answerTo, nextLine, initial};
 ghost use Rattle.conversation.specs.Tracks.{Tracks, responseText, Responds, Answers, AnswersUnended};
 
 // The section that the request is in: none before (entered ..) and after (open plain). In each a line of a later one may come.

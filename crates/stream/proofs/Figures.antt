@@ -23,8 +23,12 @@ doubles : ℕ
 unfolding round add sub mul div lt le isNan ofBits toBits finite absOf maxOf
 doubles = 0
 
+fits : ℕ
+unfolding chiSquareOf withPriorOf withPriorsOf valued objective mvStepOf bcStepOf mvPlusAt mvMinusAt bcPlusAt bcMinusAt bcMinus bcPlus mvMinus mvPlus truingJacobianRows complete accumulateOf sumsOf withPriorGradientOf finishedOf evaluate gradientNormOf flatOf evaluated iterate fitMap
+fits = 0
+
 runs : ℕ
-unfolding chiSquareOf withPriorOf withPriorsOf valued objective mvStepOf bcStepOf mvPlusAt mvMinusAt bcPlusAt bcMinusAt bcMinus bcPlus mvMinus mvPlus truingJacobianRows complete accumulateOf sumsOf withPriorGradientOf finishedOf evaluate gradientNormOf flatOf evaluated iterate fitMap bandRows baseline concluded banded fitted asked edit withinOf positiveOf soundObservationOf soundPriorOf soundRequestedOf checkedPoint checkedCount checkedMeasured checkedRequested run whole
+unfolding bandRows baseline concluded banded fitted asked edit withinOf positiveOf soundObservationOf soundPriorOf soundRequestedOf checkedPoint checkedCount checkedMeasured checkedRequested run whole
 runs = 0
 
 -- each text with a line feed
@@ -33,15 +37,15 @@ page [] = []
 page (l ∷ ls) = l ++ (10 ∷ page ls)
 
 asks-first : outputOf (page (bytes "(asked)" ∷ [])) ≡ page (bytes "(asked 0)" ∷ [])
-unfolding lines doubles runs
+unfolding lines doubles fits runs
 asks-first = refl
 
 none-of-the-forms : outputOf (page (bytes "(refused)" ∷ bytes "(asked )" ∷ [])) ≡ page (bytes "(declined 8 0)" ∷ bytes "(malformed 2)" ∷ [])
-unfolding lines doubles runs
+unfolding lines doubles fits runs
 none-of-the-forms = refl
 
 unended-line : outputOf (page (bytes "(take-out 1)" ∷ []) ++ bytes "(asked)") ≡ page (bytes "(declined 14 0)" ∷ bytes "(malformed 2)" ∷ [])
-unfolding lines doubles runs
+unfolding lines doubles fits runs
 unended-line = refl
 
 transcript : outputOf
@@ -52,7 +56,7 @@ transcript : outputOf
     ∷ bytes "(open plain)"
     ∷ []))
     ≡ page (bytes "(question shots 409f400000000000 3fd3333333333333)" ∷ [])
-unfolding lines doubles runs
+unfolding lines doubles fits runs
 transcript = refl
 
 -- and some of its replies
@@ -76,5 +80,5 @@ replies : outputOf (page
     ∷ bytes "(question shots 409f400000000000 3fd32e48e8a71de6)"
     ∷ bytes "(question shots 409f400000000000 3fd3333333333333)"
     ∷ [])
-unfolding lines doubles runs
+unfolding lines doubles fits runs
 replies = refl

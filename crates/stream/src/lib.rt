@@ -20,7 +20,8 @@ pub struct Reader {
     line: Line,
 }
 
-fn first_bytes<'a>(s: &'a [u8], n: usize) -> &'a [u8]
+// The first n bytes, or all.
+pub fn first_bytes<'a>(s: &'a [u8], n: usize) -> &'a [u8]
     ensures { λ r. ⌜ now r ≡ take n (now (s .entry)) ⌝ }
 {
     if n < s.len() {

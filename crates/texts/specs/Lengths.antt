@@ -237,7 +237,21 @@ codes-length a b c d e f g h i j =
     let l3 = warn d Warning.IllConditionedData l4 in
     let l2 = warn c Warning.WeakBcSensitivity l3 in
     let l1 = warn b Warning.ObjectiveMeshConvergence l2 in
-    omega (arith, warn-length j Warning.PredictionOutsideObservedDomain [], warn-length i Warning.LowEffectiveDegreesOfFreedom l9, warn-length h Warning.IntervalCrossesFitBounds l8, warn-length g Warning.GaussianApproximationUnavailable l7, warn-length f Warning.BcPriorDominated l6, warn-length e Warning.MvPriorDominated l5, warn-length d Warning.IllConditionedData l4, warn-length c Warning.WeakBcSensitivity l3, warn-length b Warning.ObjectiveMeshConvergence l2, warn-length a Warning.OptimizerDidNotConverge l1)
+    omega (
+      arith,
+      warn-length j Warning.PredictionOutsideObservedDomain [],
+      warn-length i Warning.LowEffectiveDegreesOfFreedom l9,
+      warn-length h
+          Warning.IntervalCrossesFitBounds l8,
+      warn-length g Warning.GaussianApproximationUnavailable l7,
+      warn-length f Warning.BcPriorDominated l6,
+      warn-length e Warning.MvPriorDominated l5,
+      warn-length d Warning.IllConditionedData l4,
+      warn-length c Warning.WeakBcSensitivity l3,
+      warn-length b
+          Warning.ObjectiveMeshConvergence l2,
+      warn-length a Warning.OptimizerDidNotConverge l1,
+    )
 
 pub warnings-most : (m : Measured) (f : Fit) (e : Evaluation) (a : Approximation) (d : Diagnostics) (requested : List Requested) → length (warningsOf m f e a d requested) ≤ 10
 unfolding warningsBy

@@ -5,9 +5,7 @@ use libc::STDIN_FILENO;
 use libc::STDOUT_FILENO;
 use stream::Fed;
 use stream::State;
-ghost use mathlib.Core.Path.{_≡_};
 ghost use mathlib.Core.List.{[]};
-ghost use lib.ListN.{take};
 ghost use Rattle.conversation.specs.Conversation.{initial};
 ghost use Rattle.stream.specs.Bytes.{Holds, Feeds, Finishes};
 
@@ -34,17 +32,8 @@ fn finish(s: State, out: &mut [u8; 32768]) -> usize
 
 // ---- the loop
 
-fn first_bytes<'a>(s: &'a [u8], n: usize) -> &'a [u8]
-    ensures { λ r. ⌜ now r ≡ take n (now (s .entry)) ⌝ }
-{
-    if n < s.len() {
-        return &s[..n];
-    }
-    s
-}
-
 fn write_out(out: &[u8; 32768], end: usize) {
-    let written = io::write_all(STDOUT_FILENO, first_bytes(out, end));
+    let written = io::write_all(STDOUT_FILENO, stream::first_bytes(out, end));
 }
 
 // Takes the bytes that were read, and writes each answer out.

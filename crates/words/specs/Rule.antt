@@ -9,7 +9,8 @@ use native.Mathlib.Nat.{le-of-suc-le-suc, not-suc-le-zero}
 use borrow.Author.Tests.{eqb-true, eq-eqb, ltb-true}
 use lib.Dec.{leb, ltb, eqb, eqb·zero-suc, eqb·suc-zero, eqb·suc-suc}
 use lib.ListN.{length, getD}
-use Rattle.words.specs.Words.{bytes, same, is, words, wordAt, placeIn, placeOf, place, low}
+use Rattle.words.specs.Words.{bytes, same, is, words, wordAt, placeIn, placeOf, place}
+use Rattle.words.specs.Rows.{low}
 
 -- ---- two lists of bytes
 

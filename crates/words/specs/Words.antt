@@ -1,13 +1,13 @@
 -- The fixed words of the line protocol, those that are read and those that are written, as one table. A word's place in it is the number by which the
 -- code knows it.
-use Prim.Native.Nat.{ℕ, suc, _-_}
+use Prim.Native.Nat.{ℕ, suc}
 use Prim.Native.Char.{code}
 use Prim.Native.String.{String}
 use Prim.Native.String as string
 use mathlib.Core.Bool.{Bool, true, false, _&&_, cond}
-use mathlib.Core.List.{List, [], _∷_, _++_, map}
-use lib.Dec.{eqb, ltb}
-use lib.ListN.{length, getD, replicate}
+use mathlib.Core.List.{List, [], _∷_, map}
+use lib.Dec.{eqb}
+use lib.ListN.{getD}
 
 -- the bytes of a quoted word, whose characters are ASCII
 abbrev pub bytes : String → List ℕ
@@ -70,17 +70,3 @@ placeOf s = placeIn words s
 -- the place of a quoted word
 abbrev pub place : String → ℕ
 place w = placeIn words (bytes w)
-
--- a word in 32 bytes, blanks behind it
-abbrev pub rowOf : List ℕ → List ℕ
-rowOf w = w ++ replicate (32 - length w) 32
-
--- the rows one after another
-abbrev pub tableOf : List (List ℕ) → List ℕ
-tableOf [] = []
-tableOf (w ∷ ws) = rowOf w ++ tableOf ws
-
--- the first byte is before the letters, as a number's mostly is: no word begins so
-abbrev pub low : List ℕ → Bool
-low [] = false
-low (c ∷ s) = ltb c 58

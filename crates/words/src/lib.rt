@@ -2,7 +2,8 @@
 ghost use mathlib.Core.Path.{_≡_};
 ghost use Prim.Native.Nat.{_<_};
 ghost use lib.ListN.{length, getD};
-ghost use Rattle.words.specs.Words.{same, words, wordAt, placeOf, rowOf, tableOf, low};
+ghost use Rattle.words.specs.Words.{same, words, wordAt, placeOf};
+ghost use Rattle.words.specs.Rows.{rowOf, tableOf, low};
 
 // The number of words, which is the place of what is none of them.
 pub const COUNT: usize = 42;

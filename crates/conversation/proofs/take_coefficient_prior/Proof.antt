@@ -25,7 +25,10 @@ collected-requires c κs = search needs
 
 returns-2 : tie.Need-returns-2
 unfolding answerTo
-returns-2 c = λ u k. let a = c .before .before .before .before .before .args in timely k takesCoefficient (collected u Distances (withCoefficient (u .request) (normal (a .mean) (a .sigma)))) _ (c .before .before .before .before .takes-coefficient .ensures) (not-false _ (c .before .before .before .if1 .left)) (c .collected .ensures u _ k (c .before .with-coefficient-prior .ensures (u .request) (k .request)))
+returns-2 c =
+    λ u k. let a = c .before .before .before .before .before .args in timely k takesCoefficient (collected u Distances (withCoefficient (u .request)
+    (normal (a .mean) (a .sigma)))) _ (c .before .before .before .before .takes-coefficient .ensures) (not-false _ (c .before .before .before .if1 .left))
+    (c .collected .ensures u _ k (c .before .with-coefficient-prior .ensures (u .request) (k .request)))
 
 pub take-coefficient-prior-spec : {M : Type 1} → statement M
 take-coefficient-prior-spec =

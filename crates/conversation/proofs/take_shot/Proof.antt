@@ -25,7 +25,14 @@ collected-requires c κs = search needs
 
 returns-2 : tie.Need-returns-2
 unfolding answerTo
-returns-2 c = λ u k. let a = c .before .before .before .before .before .args in timely k takesShot (collected u Shots (withShot (u .request) (record { range = a .range; drop = a .drop; sigma = a .sigma }))) _ (c .before .before .before .before .takes-shots .ensures) (not-false _ (c .before .before .before .if1 .left)) (c .collected .ensures u _ k (c .before .with-shot .ensures (u .request) (k .request)))
+returns-2 c =
+    λ u k. let a = c .before .before .before .before .before .args in timely k takesShot (collected u Shots (withShot (u .request) (record {
+      range =
+          a .range;
+      drop = a .drop;
+      sigma = a .sigma;
+    }))) _ (c .before .before .before .before .takes-shots .ensures) (not-false _ (c .before .before .before .if1 .left))
+    (c .collected .ensures u _ k (c .before .with-shot .ensures (u .request) (k .request)))
 
 pub take-shot-spec : {M : Type 1} → statement M
 take-shot-spec =

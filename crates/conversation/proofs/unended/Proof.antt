@@ -4,7 +4,7 @@ use mathlib.Core.Path.{ap, subst}
 use borrow.Author.Needs.{needs}
 use Rattle.texts.specs.Texts.{malformedText}
 use Rattle.texts.specs.Writing.{same-room}
-use Rattle.conversation.specs.Conversation.{line}
+use Rattle.answers.specs.Answers.{line}
 use Rattle.conversation.specs.Tracks.{Fills}
 use Rattle.conversation.proofs.Responses.{malformed-fills}
 use Rattle.conversation.proofs.unended.Statement.{statement}

@@ -28,7 +28,18 @@ open-requires : tie.Need-open-requires
 open-requires c κs = search needs
 
 returns : tie.Need-returns
-returns c = let r = c .before .before .before .before .before .before .before .before .before .before .before .before .before .before .before .before .before .before .before .before .before .before .args .t1 in subst (λ (o : Opening). Opened o (c .«open» .result)) (λ i. openingOf (r .entered) (c .before .before .before .before .before .before .before .before .before .before .before .before .before .before .before .before .first-places .ensures i) (c .before .before .before .before .before .before .before .before .before .before .before .before .before .first-places2 .ensures i) (c .before .before .before .before .before .before .before .before .before .before .first-places3 .ensures i) (r .priors) (c .before .before .before .before .before .before .before .first-places4 .ensures i) (c .before .before .before .before .first-places5 .ensures i) (c .before .first-flags .ensures i)) (c .«open» .ensures)
+returns c =
+    let r = c .before .before .before .before .before .before .before .before .before .before .before .before .before .before .before .before .before .before .before .before .before .before .args .t1 in
+    subst (λ (o : Opening). Opened o (c .«open» .result))
+    (λ i. openingOf (r .entered)
+    (c .before .before .before .before .before .before .before .before .before .before .before .before .before .before .before .before .first-places .ensures i)
+    (c .before .before .before .before .before .before .before .before .before .before .before .before .before .first-places2 .ensures i)
+    (c .before .before .before .before .before .before .before .before .before .before .first-places3 .ensures i)
+    (r .priors)
+    (c .before .before .before .before .before .before .before .first-places4 .ensures i)
+    (c .before .before .before .before .first-places5 .ensures i)
+    (c .before .first-flags .ensures i))
+    (c .«open» .ensures)
 
 pub opened-spec : {M : Type 1} → statement M
 opened-spec =

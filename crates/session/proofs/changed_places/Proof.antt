@@ -41,15 +41,28 @@ long-old c = search needs
 
 returns : tie.Need-returns
 returns c =
-    λ h p f. subst (λ x. take (sizeAfter (editOf x) (c .before .before .before .before .before .args .n)) (c .inserted .result) ≡ editedNumbers (editOf x) (c .before .before .before .before .before .args .x) (take (c .before .before .before .before .before .args .n) (c .before .before .before .before .before .args .old))) (sym (c .before .before .before .change .given .1)) (put-places (c .before .before .before .before .before .args .old) _ (c .before .before .before .before .before .args .n) _ _ (c .before .before .before .before .before .args .x) (c .before .index .ensures) (long-old (c .before .before .before .before .before)) (c .inserted .ensures) (subst (λ x. T (placed (editOf x) (c .before .before .before .before .before .args .n))) (c .before .before .before .change .given .1) p) (subst (λ x. T (roomy (editOf x) (c .before .before .before .before .before .args .n))) (c .before .before .before .change .given .1) f))
+    λ h p f. subst (λ x. take (sizeAfter (editOf x) (c .before .before .before .before .before .args .n)) (c .inserted .result) ≡ editedNumbers
+    (editOf x) (c .before .before .before .before .before .args .x) (take (c .before .before .before .before .before .args .n) (c .before .before .before .before .before .args .old)))
+    (sym (c .before .before .before .change .given .1)) (put-places (c .before .before .before .before .before .args .old) _ (c .before .before .before .before .before .args .n)
+    _ _ (c .before .before .before .before .before .args .x) (c .before .index .ensures) (long-old (c .before .before .before .before .before)) (c .inserted .ensures)
+    (subst (λ x. T (placed (editOf x) (c .before .before .before .before .before .args .n))) (c .before .before .before .change .given .1) p) (subst
+    (λ x. T (roomy (editOf x) (c .before .before .before .before .before .args .n))) (c .before .before .before .change .given .1) f))
 
 returns-2 : tie.Need-returns-2
 returns-2 c =
-    λ h p f. subst (λ x. take (sizeAfter (editOf x) (c .before .before .before .before .before .args .n)) (c .removed .result) ≡ editedNumbers (editOf x) (c .before .before .before .before .before .args .x) (take (c .before .before .before .before .before .args .n) (c .before .before .before .before .before .args .old))) (sym (c .before .before .before .change2 .given .1)) (took-places (c .before .before .before .before .before .args .old) _ (c .before .before .before .before .before .args .n) _ _ (c .before .before .before .before .before .args .x) (c .before .index2 .ensures) (long-old (c .before .before .before .before .before)) (c .removed .ensures) h (subst (λ x. T (placed (editOf x) (c .before .before .before .before .before .args .n))) (c .before .before .before .change2 .given .1) p))
+    λ h p f. subst (λ x. take (sizeAfter (editOf x) (c .before .before .before .before .before .args .n)) (c .removed .result) ≡ editedNumbers
+    (editOf x) (c .before .before .before .before .before .args .x) (take (c .before .before .before .before .before .args .n) (c .before .before .before .before .before .args .old)))
+    (sym (c .before .before .before .change2 .given .1)) (took-places (c .before .before .before .before .before .args .old) _ (c .before .before .before .before .before .args .n)
+    _ _ (c .before .before .before .before .before .args .x) (c .before .index2 .ensures) (long-old (c .before .before .before .before .before)) (c .removed .ensures)
+    h (subst (λ x. T (placed (editOf x) (c .before .before .before .before .before .args .n))) (c .before .before .before .change2 .given .1) p))
 
 returns-3 : tie.Need-returns-3
 returns-3 c =
-    λ h p f. subst (λ x. take (sizeAfter (editOf x) (c .before .before .before .before .before .args .n)) (c .exchanged .result) ≡ editedNumbers (editOf x) (c .before .before .before .before .before .args .x) (take (c .before .before .before .before .before .args .n) (c .before .before .before .before .before .args .old))) (sym (c .before .before .before .change3 .given .1)) (set-places (c .before .before .before .before .before .args .old) _ (c .before .before .before .before .before .args .n) _ _ (c .before .before .before .before .before .args .x) (c .before .index3 .ensures) (c .exchanged .ensures) (subst (λ x. T (placed (editOf x) (c .before .before .before .before .before .args .n))) (c .before .before .before .change3 .given .1) p))
+    λ h p f. subst (λ x. take (sizeAfter (editOf x) (c .before .before .before .before .before .args .n)) (c .exchanged .result) ≡ editedNumbers
+    (editOf x) (c .before .before .before .before .before .args .x) (take (c .before .before .before .before .before .args .n) (c .before .before .before .before .before .args .old)))
+    (sym (c .before .before .before .change3 .given .1)) (set-places (c .before .before .before .before .before .args .old) _ (c .before .before .before .before .before .args .n)
+    _ _ (c .before .before .before .before .before .args .x) (c .before .index3 .ensures) (c .exchanged .ensures) (subst (λ x. T (placed (editOf x)
+    (c .before .before .before .before .before .args .n))) (c .before .before .before .change3 .given .1) p))
 
 pub changed-places-spec : {M : Type 1} → statement M
 changed-places-spec =

@@ -36,7 +36,12 @@ returns-2 c = record { turns = λ h l. refused-turns (c .before .before .before 
 
 returns-3 : tie.Need-returns-3
 returns-3 c =
-    record { turns = λ h l. summed-turns (c .before .before .before .before .before .args .value) (c .waits .result) (λ m ds. afterLook m ds (c .before .before .before .before .before .args .g) (c .before .before .before .before .before .args .c)) _ (c .before .before .before .value2 .given .1) (moved-turns (c .before .after-look .result) (c .waits .result) _ _ h (c .waits .ensures) (c .before .after-look .ensures)) }
+    record {
+      turns =
+          λ h l. summed-turns (c .before .before .before .before .before .args .value) (c .waits .result) (λ m ds. afterLook m ds (c .before .before .before .before .before .args .g)
+          (c .before .before .before .before .before .args .c)) _ (c .before .before .before .value2 .given .1) (moved-turns (c .before .after-look .result)
+          (c .waits .result) _ _ h (c .waits .ensures) (c .before .after-look .ensures));
+    }
 
 pub looked-spec : {M : Type 1} → statement M
 looked-spec = tie.close (tie.spec enum-known-value stops-requires enum-told stops-requires-2 enum-known-value-2 after-look-requires waits-requires returns returns-2 returns-3)

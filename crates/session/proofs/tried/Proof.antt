@@ -36,7 +36,12 @@ returns-2 c = record { turns = λ h. refused-turns (c .before .before .before .a
 
 returns-3 : tie.Need-returns-3
 returns-3 c =
-    record { turns = λ h. summed-turns (c .before .before .before .before .before .args .value) (c .waits .result) (λ m ds. afterTrial m ds (c .before .before .before .before .before .args .g) (c .before .before .before .before .before .args .q)) _ (c .before .before .before .value2 .given .1) (moved-turns (c .before .after-trial .result) (c .waits .result) _ _ h (c .waits .ensures) (c .before .after-trial .ensures)) }
+    record {
+      turns =
+          λ h. summed-turns (c .before .before .before .before .before .args .value) (c .waits .result) (λ m ds. afterTrial m ds (c .before .before .before .before .before .args .g)
+          (c .before .before .before .before .before .args .q)) _ (c .before .before .before .value2 .given .1) (moved-turns (c .before .after-trial .result)
+          (c .waits .result) _ _ h (c .waits .ensures) (c .before .after-trial .ensures));
+    }
 
 pub tried-spec : {M : Type 1} → statement M
 tried-spec = tie.close (tie.spec enum-known-value stops-requires enum-told stops-requires-2 enum-known-value-2 after-trial-requires waits-requires returns returns-2 returns-3)

@@ -1,18 +1,25 @@
 use Prim.Native.Nat.{ℕ, _-_}
 use mathlib.Core.Path.{_∙_, ap}
-use mathlib.Core.Bool.{false}
+use mathlib.Core.Bool.{Bool, false}
 use mathlib.Core.List.{List}
 use borrow.Author.Needs.{needs}
 use borrow.Author.Tests.{eq-eqb, ne-eqb}
 use native.Mathlib.Omega.{arith}
 use lib.ListN.{length, getD}
 use Rattle.forms.specs.Reading.{takeOf}
+use Rattle.forms.specs.declared.Line.{Line}
+use Rattle.stream.specs.declared.Reader.{Reader}
 use Rattle.stream.proofs.Bytes.{reads-blank, reads-full, reads-more, Scanning, scan-starts, scan-on, scan-ends, scan-stops}
 use Rattle.stream.proofs.scan.Statement.{statement}
 use Rattle.stream.proofs.scan.Tie as tie
 
+-- the reader of these numbers
+abbrev readerIn : List ℕ → ℕ → Bool → Bool → Line → Reader
+readerIn word len first begun line = record { word = word; len = len; first = first; begun = begun; line = line }
+
 abbrev Inv-loop : tie.InvT-loop
-Inv-loop bytes at word₀ len₀ first₀ begun₀ line₀ i₀ word len first begun line i = Scanning bytes (record { word = word₀; len = len₀; first = first₀; begun = begun₀; line = line₀ }) at (record { word = word; len = len; first = first; begun = begun; line = line }) i
+Inv-loop bytes at word₀ len₀ first₀ begun₀ line₀ i₀ word len first begun line i =
+    Scanning bytes (readerIn word₀ len₀ first₀ begun₀ line₀) at (readerIn word len first begun line) i
 
 abbrev μ-loop : tie.MeasureT-loop
 μ-loop bytes at word₀ len₀ first₀ begun₀ line₀ i₀ word len first begun line i = length bytes - i
@@ -27,7 +34,10 @@ add-i : tie.Need-add-i Inv-loop μ-loop
 add-i c = omega arith
 
 returns : tie.Need-returns Inv-loop μ-loop
-returns c = let a = c .before .before .before .before .before .before .before .args in scan-ends (a .bytes .now) (a .r) (a .at) (record { word = c .before .before .before .loop .word; len = c .before .before .before .loop .len; first = c .before .before .before .loop .first; begun = c .before .before .before .loop .begun; line = c .before .before .before .loop .line }) (c .before .before .before .loop .i) (c .before .before .before .loop .inv) (c .before .before .loop-test .taken) (c .if1 .taken)
+returns c =
+    let a = c .before .before .before .before .before .before .before .args in
+    let l = c .before .before .before .loop in
+    scan-ends (a .bytes .now) (a .r) (a .at) (readerIn (l .word) (l .len) (l .first) (l .begun) (l .line)) (l .i) (l .inv) (c .before .before .loop-test .taken) (c .if1 .taken)
 
 word-of-requires : tie.Need-word-of-requires Inv-loop μ-loop
 word-of-requires c κs = search needs
@@ -39,7 +49,13 @@ loop-less : tie.Need-loop-less Inv-loop μ-loop
 loop-less c = let e = c .before .before .before .before .before .before .loop-test in omega arith
 
 loop-again : tie.Need-loop-again Inv-loop μ-loop
-loop-again c = let a = c .before .before .before .before .before .before .before .before .before .before .before .args in scan-on (a .bytes .now) (a .r) (a .at) (record { word = c .before .before .before .before .before .before .before .loop .word; len = c .before .before .before .before .before .before .before .loop .len; first = c .before .before .before .before .before .before .before .loop .first; begun = c .before .before .before .before .before .before .before .loop .begun; line = c .before .before .before .before .before .before .before .loop .line }) (c .before .before .before .before .before .before .before .loop .i) (c .before .before .before .before .before .before .before .loop .inv) (c .before .before .before .before .before .before .loop-test .taken) _ (c .before .before .before .before .if1 .left) (λ s k. reads-blank (record { word = c .before .before .before .before .before .before .before .loop .word; len = c .before .before .before .before .before .before .before .loop .len; first = c .before .before .before .before .before .before .before .loop .first; begun = c .before .before .before .before .before .before .before .loop .begun; line = c .before .before .before .before .before .before .before .loop .line }) s k (getD (c .before .before .before .before .before .before .before .before .before .before .before .args .bytes .now) (c .before .before .before .before .before .before .before .loop .i) 0) (c .take .result) (eq-eqb (getD (c .before .before .before .before .before .before .before .before .before .before .before .args .bytes .now) (c .before .before .before .before .before .before .before .loop .i) 0) 32 (c .before .before .before .if2 .taken)) (c .take .ensures ∙ ap (λ (w : List ℕ). takeOf (c .before .before .before .before .before .before .before .loop .line) w (c .before .before .before .before .before .before .before .loop .first) false) (c .before .word-of .ensures)))
+loop-again c =
+    let a = c .before .before .before .before .before .before .before .before .before .before .before .args in
+    let l = c .before .before .before .before .before .before .before .loop in
+    scan-on (a .bytes .now) (a .r) (a .at) (readerIn (l .word) (l .len) (l .first) (l .begun) (l .line)) (l .i) (l .inv) (c .before .before .before .before .before .before .loop-test .taken) _ (c .before .before .before .before .if1 .left) (λ s k.
+    reads-blank (readerIn (l .word) (l .len) (l .first) (l .begun) (l .line)) s k (getD (a .bytes .now) (l .i) 0) (c .take .result)
+    (eq-eqb (getD (a .bytes .now) (l .i) 0) 32 (c .before .before .before .if2 .taken))
+    (c .take .ensures ∙ ap (λ (w : List ℕ). takeOf (l .line) w (l .first) false) (c .before .word-of .ensures)))
 
 array-write-word : tie.Need-array-write-word Inv-loop μ-loop
 array-write-word c = omega arith
@@ -51,16 +67,29 @@ loop-less-2 : tie.Need-loop-less-2 Inv-loop μ-loop
 loop-less-2 c = omega arith
 
 loop-again-2 : tie.Need-loop-again-2 Inv-loop μ-loop
-loop-again-2 c = let a = c .before .before .before .before .before .before .before .before .before .args in scan-on (a .bytes .now) (a .r) (a .at) (record { word = c .before .before .before .before .before .loop .word; len = c .before .before .before .before .before .loop .len; first = c .before .before .before .before .before .loop .first; begun = c .before .before .before .before .before .loop .begun; line = c .before .before .before .before .before .loop .line }) (c .before .before .before .before .before .loop .i) (c .before .before .before .before .before .loop .inv) (c .before .before .before .before .loop-test .taken) _ (c .before .before .if1 .left) (λ s k. reads-more (record { word = c .before .before .before .before .before .loop .word; len = c .before .before .before .before .before .loop .len; first = c .before .before .before .before .before .loop .first; begun = c .before .before .before .before .before .loop .begun; line = c .before .before .before .before .before .loop .line }) s k (getD (c .before .before .before .before .before .before .before .before .before .args .bytes .now) (c .before .before .before .before .before .loop .i) 0) (ne-eqb (getD (c .before .before .before .before .before .before .before .before .before .args .bytes .now) (c .before .before .before .before .before .loop .i) 0) 32 (c .before .if2 .left)) (c .if3 .taken))
+loop-again-2 c =
+    let a = c .before .before .before .before .before .before .before .before .before .args in
+    let l = c .before .before .before .before .before .loop in
+    scan-on (a .bytes .now) (a .r) (a .at) (readerIn (l .word) (l .len) (l .first) (l .begun) (l .line)) (l .i) (l .inv) (c .before .before .before .before .loop-test .taken) _ (c .before .before .if1 .left) (λ s k.
+    reads-more (readerIn (l .word) (l .len) (l .first) (l .begun) (l .line)) s k (getD (a .bytes .now) (l .i) 0)
+    (ne-eqb (getD (a .bytes .now) (l .i) 0) 32 (c .before .if2 .left)) (c .if3 .taken))
 
 loop-less-3 : tie.Need-loop-less-3 Inv-loop μ-loop
 loop-less-3 c = omega arith
 
 loop-again-3 : tie.Need-loop-again-3 Inv-loop μ-loop
-loop-again-3 c = let a = c .before .before .before .before .before .before .before .before .before .args in scan-on (a .bytes .now) (a .r) (a .at) (record { word = c .before .before .before .before .before .loop .word; len = c .before .before .before .before .before .loop .len; first = c .before .before .before .before .before .loop .first; begun = c .before .before .before .before .before .loop .begun; line = c .before .before .before .before .before .loop .line }) (c .before .before .before .before .before .loop .i) (c .before .before .before .before .before .loop .inv) (c .before .before .before .before .loop-test .taken) _ (c .before .before .if1 .left) (λ s k. reads-full (record { word = c .before .before .before .before .before .loop .word; len = c .before .before .before .before .before .loop .len; first = c .before .before .before .before .before .loop .first; begun = c .before .before .before .before .before .loop .begun; line = c .before .before .before .before .before .loop .line }) s k (getD (c .before .before .before .before .before .before .before .before .before .args .bytes .now) (c .before .before .before .before .before .loop .i) 0) (ne-eqb (getD (c .before .before .before .before .before .before .before .before .before .args .bytes .now) (c .before .before .before .before .before .loop .i) 0) 32 (c .before .if2 .left)) (c .if3 .left))
+loop-again-3 c =
+    let a = c .before .before .before .before .before .before .before .before .before .args in
+    let l = c .before .before .before .before .before .loop in
+    scan-on (a .bytes .now) (a .r) (a .at) (readerIn (l .word) (l .len) (l .first) (l .begun) (l .line)) (l .i) (l .inv) (c .before .before .before .before .loop-test .taken) _ (c .before .before .if1 .left) (λ s k.
+    reads-full (readerIn (l .word) (l .len) (l .first) (l .begun) (l .line)) s k (getD (a .bytes .now) (l .i) 0)
+    (ne-eqb (getD (a .bytes .now) (l .i) 0) 32 (c .before .if2 .left)) (c .if3 .left))
 
 returns-2 : tie.Need-returns-2 Inv-loop μ-loop
-returns-2 c = let a = c .before .before .before .before .before .args in scan-stops (a .bytes .now) (a .r) (a .at) (record { word = c .before .loop .word; len = c .before .loop .len; first = c .before .loop .first; begun = c .before .loop .begun; line = c .before .loop .line }) (c .before .loop .i) (c .before .loop .inv) (c .loop-test .left)
+returns-2 c =
+    let a = c .before .before .before .before .before .args in
+    let l = c .before .loop in
+    scan-stops (a .bytes .now) (a .r) (a .at) (readerIn (l .word) (l .len) (l .first) (l .begun) (l .line)) (l .i) (l .inv) (c .loop-test .left)
 
 pub scan-spec : {M : Type 1} → statement M
 scan-spec =

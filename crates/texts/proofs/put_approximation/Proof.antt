@@ -40,7 +40,10 @@ same-length-2 c = search needs
 
 returns-2 : tie.Need-returns-2
 unfolding approximationText wordAt
-returns-2 c = as-text (then (c .before .before .before .before .before .before .before .before .before .before .before .put-start .ensures) (then (as-text (c .before .before .before .before .before .before .put-word .ensures) (c .before .before .before .before .before .before .before .failure-word .ensures)) (c .before .before .put-byte .ensures))) (simp (c .before .before .before .before .before .before .before .before .before .before .before .before .before .before .a2 .given .1) (in-brackets _))
+returns-2 c =
+    as-text (then (c .before .before .before .before .before .before .before .before .before .before .before .put-start .ensures) (then (as-text (c .before .before .before .before .before .before .put-word .ensures)
+    (c .before .before .before .before .before .before .before .failure-word .ensures)) (c .before .before .put-byte .ensures))) (simp (c .before .before .before .before .before .before .before .before .before .before .before .before .before .before .a2 .given .1)
+    (in-brackets _))
 
 pub put-approximation-spec : {M : Type 1} → statement M
 put-approximation-spec =

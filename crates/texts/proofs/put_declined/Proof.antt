@@ -24,7 +24,10 @@ same-length c = same-room (then (c .before .before .before .before .before .befo
 
 returns : tie.Need-returns
 unfolding declinedText wordAt
-returns c = as-text (then (c .before .before .before .before .before .before .before .before .before .before .before .before .before .before .put-start .ensures) (then (c .before .before .before .before .before .before .before .before .before .before .put-count .ensures) (then (c .before .before .before .before .before .before .led-count .ensures) (c .before .before .put-byte .ensures)))) (in-brackets _)
+returns c =
+    as-text (then (c .before .before .before .before .before .before .before .before .before .before .before .before .before .before .put-start .ensures)
+    (then (c .before .before .before .before .before .before .before .before .before .before .put-count .ensures) (then (c .before .before .before .before .before .before .led-count .ensures)
+    (c .before .before .put-byte .ensures)))) (in-brackets _)
 
 pub put-declined-spec : {M : Type 1} → statement M
 put-declined-spec =

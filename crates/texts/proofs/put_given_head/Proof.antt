@@ -26,11 +26,19 @@ put-byte-requires : tie.Need-put-byte-requires
 put-byte-requires c κs = search needs
 
 same-length : tie.Need-same-length
-same-length c = same-room (then (c .before .before .before .before .before .before .before .before .before .before .before .before .before .before .before .before .before .before .put-bytes .ensures) (then (c .before .before .before .before .before .before .before .before .before .before .before .before .before .before .put-double .ensures) (then (c .before .before .before .before .before .before .before .before .before .before .led-double .ensures) (then (c .before .before .before .before .before .before .led-double2 .ensures) (c .before .before .put-byte .ensures)))))
+same-length c =
+    same-room (then (c .before .before .before .before .before .before .before .before .before .before .before .before .before .before .before .before .before .before .put-bytes .ensures)
+    (then (c .before .before .before .before .before .before .before .before .before .before .before .before .before .before .put-double .ensures)
+    (then (c .before .before .before .before .before .before .before .before .before .before .led-double .ensures) (then (c .before .before .before .before .before .before .led-double2 .ensures)
+    (c .before .before .put-byte .ensures)))))
 
 returns : tie.Need-returns
 unfolding givenHead
-returns c = as-text (then (c .before .before .before .before .before .before .before .before .before .before .before .before .before .before .before .before .before .before .put-bytes .ensures) (then (c .before .before .before .before .before .before .before .before .before .before .before .before .before .before .put-double .ensures) (then (c .before .before .before .before .before .before .before .before .before .before .led-double .ensures) (then (c .before .before .before .before .before .before .led-double2 .ensures) (c .before .before .put-byte .ensures))))) (after (bytes " (") _ _)
+returns c =
+    as-text (then (c .before .before .before .before .before .before .before .before .before .before .before .before .before .before .before .before .before .before .put-bytes .ensures)
+    (then (c .before .before .before .before .before .before .before .before .before .before .before .before .before .before .put-double .ensures)
+    (then (c .before .before .before .before .before .before .before .before .before .before .led-double .ensures) (then (c .before .before .before .before .before .before .led-double2 .ensures)
+    (c .before .before .put-byte .ensures))))) (after (bytes " (") _ _)
 
 pub put-given-head-spec : {M : Type 1} → statement M
 put-given-head-spec =

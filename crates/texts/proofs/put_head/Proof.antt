@@ -43,11 +43,29 @@ put-byte-requires-2 : tie.Need-put-byte-requires-2
 put-byte-requires-2 c κs = search needs
 
 same-length : tie.Need-same-length
-same-length c = same-room (then (c .before .before .before .before .before .before .before .before .before .before .before .before .before .before .before .before .before .before .before .before .before .before .before .before .before .before .before .before .before .before .before .before .before .before .before .before .put-start .ensures) (then (c .before .before .before .before .before .before .before .before .before .before .before .before .before .before .before .before .before .before .before .before .before .before .before .before .before .before .before .before .before .before .before .put-count .ensures) (then (c .before .before .before .before .before .before .before .before .before .before .before .before .before .before .before .before .before .before .before .before .before .before .before .before .before .before .before .led-double .ensures) (then (c .before .before .before .before .before .before .before .before .before .before .before .before .before .before .before .before .before .before .before .before .before .before .before .led-double2 .ensures) (then (c .before .before .before .before .before .before .before .before .before .before .before .before .before .before .before .before .before .before .before .led-count .ensures) (then (as-text (c .before .before .before .before .before .before .before .before .before .before .before .before .before .before .led-word .ensures) (ap (λ (t : Text). bytes " " ++ t) (c .before .before .before .before .before .before .before .before .before .before .before .before .before .before .before .truth-word .ensures))) (then (c .before .before .before .before .before .before .before .before .before .before .put-byte .ensures) (then (c .before .before .before .before .before .before .put-priors .ensures) (c .before .before .put-byte2 .ensures)))))))))
+same-length c =
+    same-room (then (c .before .before .before .before .before .before .before .before .before .before .before .before .before .before .before .before .before .before .before .before .before .before .before .before .before .before .before .before .before .before .before .before .before .before .before .before .put-start .ensures)
+    (then (c .before .before .before .before .before .before .before .before .before .before .before .before .before .before .before .before .before .before .before .before .before .before .before .before .before .before .before .before .before .before .before .put-count .ensures)
+    (then (c .before .before .before .before .before .before .before .before .before .before .before .before .before .before .before .before .before .before .before .before .before .before .before .before .before .before .before .led-double .ensures)
+    (then (c .before .before .before .before .before .before .before .before .before .before .before .before .before .before .before .before .before .before .before .before .before .before .before .led-double2 .ensures)
+    (then (c .before .before .before .before .before .before .before .before .before .before .before .before .before .before .before .before .before .before .before .led-count .ensures)
+    (then (as-text (c .before .before .before .before .before .before .before .before .before .before .before .before .before .before .led-word .ensures)
+    (ap (λ (t : Text). bytes " " ++ t) (c .before .before .before .before .before .before .before .before .before .before .before .before .before .before .before .truth-word .ensures)))
+    (then (c .before .before .before .before .before .before .before .before .before .before .put-byte .ensures) (then (c .before .before .before .before .before .before .put-priors .ensures)
+    (c .before .before .put-byte2 .ensures)))))))))
 
 returns : tie.Need-returns
 unfolding headText wordAt
-returns c = as-text (then (c .before .before .before .before .before .before .before .before .before .before .before .before .before .before .before .before .before .before .before .before .before .before .before .before .before .before .before .before .before .before .before .before .before .before .before .before .put-start .ensures) (then (c .before .before .before .before .before .before .before .before .before .before .before .before .before .before .before .before .before .before .before .before .before .before .before .before .before .before .before .before .before .before .before .put-count .ensures) (then (c .before .before .before .before .before .before .before .before .before .before .before .before .before .before .before .before .before .before .before .before .before .before .before .before .before .before .before .led-double .ensures) (then (c .before .before .before .before .before .before .before .before .before .before .before .before .before .before .before .before .before .before .before .before .before .before .before .led-double2 .ensures) (then (c .before .before .before .before .before .before .before .before .before .before .before .before .before .before .before .before .before .before .before .led-count .ensures) (then (as-text (c .before .before .before .before .before .before .before .before .before .before .before .before .before .before .led-word .ensures) (ap (λ (t : Text). bytes " " ++ t) (c .before .before .before .before .before .before .before .before .before .before .before .before .before .before .before .truth-word .ensures))) (then (c .before .before .before .before .before .before .before .before .before .before .put-byte .ensures) (then (c .before .before .before .before .before .before .put-priors .ensures) (c .before .before .put-byte2 .ensures))))))))) (after (bytes "(") _ _)
+returns c =
+    as-text (then (c .before .before .before .before .before .before .before .before .before .before .before .before .before .before .before .before .before .before .before .before .before .before .before .before .before .before .before .before .before .before .before .before .before .before .before .before .put-start .ensures)
+    (then (c .before .before .before .before .before .before .before .before .before .before .before .before .before .before .before .before .before .before .before .before .before .before .before .before .before .before .before .before .before .before .before .put-count .ensures)
+    (then (c .before .before .before .before .before .before .before .before .before .before .before .before .before .before .before .before .before .before .before .before .before .before .before .before .before .before .before .led-double .ensures)
+    (then (c .before .before .before .before .before .before .before .before .before .before .before .before .before .before .before .before .before .before .before .before .before .before .before .led-double2 .ensures)
+    (then (c .before .before .before .before .before .before .before .before .before .before .before .before .before .before .before .before .before .before .before .led-count .ensures)
+    (then (as-text (c .before .before .before .before .before .before .before .before .before .before .before .before .before .before .led-word .ensures)
+    (ap (λ (t : Text). bytes " " ++ t) (c .before .before .before .before .before .before .before .before .before .before .before .before .before .before .before .truth-word .ensures)))
+    (then (c .before .before .before .before .before .before .before .before .before .before .put-byte .ensures) (then (c .before .before .before .before .before .before .put-priors .ensures)
+    (c .before .before .put-byte2 .ensures))))))))) (after (bytes "(") _ _)
 
 pub put-head-spec : {M : Type 1} → statement M
 put-head-spec =

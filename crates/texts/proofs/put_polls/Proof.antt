@@ -41,7 +41,15 @@ same-length c = search needs
 
 returns : tie.Need-returns
 unfolding pollsText
-returns c = as-text (then (c .before .before .before .before .before .before .before .before .before .before .before .before .before .before .before .before .before .before .before .before .before .before .before .before .before .before .before .before .before .before .before .put-double .ensures) (then (c .before .before .before .before .before .before .before .before .before .before .before .before .before .before .before .before .before .before .before .before .before .before .before .before .before .before .before .led-double .ensures) (then (c .before .before .before .before .before .before .before .before .before .before .before .before .before .before .before .before .before .before .before .before .before .before .before .led-double2 .ensures) (then (as-text (c .before .before .before .before .before .before .before .before .before .before .before .before .before .before .before .before .before .before .led-word .ensures) (ap (λ (t : Text). bytes " " ++ t) (c .before .before .before .before .before .before .before .before .before .before .before .before .before .before .before .before .before .before .before .criterion-word .ensures))) (then (c .before .before .before .before .before .before .before .before .before .before .before .before .before .before .led-number .ensures) (then (c .before .before .before .before .before .before .before .before .before .before .led-number2 .ensures) (then (c .before .before .before .before .before .before .led-count .ensures) (c .before .before .put-byte .ensures)))))))) (joined-end _ _)
+returns c =
+    as-text (then (c .before .before .before .before .before .before .before .before .before .before .before .before .before .before .before .before .before .before .before .before .before .before .before .before .before .before .before .before .before .before .before .put-double .ensures)
+    (then (c .before .before .before .before .before .before .before .before .before .before .before .before .before .before .before .before .before .before .before .before .before .before .before .before .before .before .before .led-double .ensures)
+    (then (c .before .before .before .before .before .before .before .before .before .before .before .before .before .before .before .before .before .before .before .before .before .before .before .led-double2 .ensures)
+    (then (as-text (c .before .before .before .before .before .before .before .before .before .before .before .before .before .before .before .before .before .before .led-word .ensures)
+    (ap (λ (t : Text). bytes " " ++ t) (c .before .before .before .before .before .before .before .before .before .before .before .before .before .before .before .before .before .before .before .criterion-word .ensures)))
+    (then (c .before .before .before .before .before .before .before .before .before .before .before .before .before .before .led-number .ensures)
+    (then (c .before .before .before .before .before .before .before .before .before .before .led-number2 .ensures) (then (c .before .before .before .before .before .before .led-count .ensures)
+    (c .before .before .put-byte .ensures)))))))) (joined-end _ _)
 
 pub put-polls-spec : {M : Type 1} → statement M
 put-polls-spec =

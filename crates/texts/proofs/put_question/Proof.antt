@@ -30,7 +30,12 @@ same-length c = search needs
 
 returns : tie.Need-returns
 unfolding questionText wordAt
-returns c = as-text (then (c .before .before .before .before .before .before .before .before .before .before .before .before .before .before .before .before .before .before .before .put-start .ensures) (then (as-text (c .before .before .before .before .before .before .before .before .before .before .before .before .before .before .put-word .ensures) (c .before .before .before .before .before .before .before .before .before .before .before .before .before .before .before .kind-word .ensures)) (then (c .before .before .before .before .before .before .before .before .before .before .led-double .ensures) (then (c .before .before .before .before .before .before .led-double2 .ensures) (c .before .before .put-byte .ensures))))) (in-brackets _)
+returns c =
+    as-text (then (c .before .before .before .before .before .before .before .before .before .before .before .before .before .before .before .before .before .before .before .put-start .ensures)
+    (then (as-text (c .before .before .before .before .before .before .before .before .before .before .before .before .before .before .put-word .ensures)
+    (c .before .before .before .before .before .before .before .before .before .before .before .before .before .before .before .kind-word .ensures))
+    (then (c .before .before .before .before .before .before .before .before .before .before .led-double .ensures) (then (c .before .before .before .before .before .before .led-double2 .ensures)
+    (c .before .before .put-byte .ensures))))) (in-brackets _)
 
 pub put-question-spec : {M : Type 1} → statement M
 put-question-spec =

@@ -32,11 +32,25 @@ put-byte-requires-2 : tie.Need-put-byte-requires-2
 put-byte-requires-2 c κs = search needs
 
 same-length : tie.Need-same-length
-same-length c = same-room (then (c .before .before .before .before .before .before .before .before .before .before .before .before .before .before .before .before .before .before .before .before .before .before .before .before .before .before .before .before .before .before .put-byte .ensures) (then (c .before .before .before .before .before .before .before .before .before .before .before .before .before .before .before .before .before .before .before .before .before .before .before .before .before .before .put-double .ensures) (then (c .before .before .before .before .before .before .before .before .before .before .before .before .before .before .before .before .before .before .before .before .before .before .led-double .ensures) (then (c .before .before .before .before .before .before .before .before .before .before .before .before .before .before .before .before .before .before .led-double2 .ensures) (then (c .before .before .before .before .before .before .before .before .before .before .before .before .before .before .led-number .ensures) (then (c .before .before .before .before .before .before .before .before .before .before .led-number2 .ensures) (then (c .before .before .before .before .before .before .led-number3 .ensures) (c .before .before .put-byte2 .ensures))))))))
+same-length c =
+    same-room (then (c .before .before .before .before .before .before .before .before .before .before .before .before .before .before .before .before .before .before .before .before .before .before .before .before .before .before .before .before .before .before .put-byte .ensures)
+    (then (c .before .before .before .before .before .before .before .before .before .before .before .before .before .before .before .before .before .before .before .before .before .before .before .before .before .before .put-double .ensures)
+    (then (c .before .before .before .before .before .before .before .before .before .before .before .before .before .before .before .before .before .before .before .before .before .before .led-double .ensures)
+    (then (c .before .before .before .before .before .before .before .before .before .before .before .before .before .before .before .before .before .before .led-double2 .ensures)
+    (then (c .before .before .before .before .before .before .before .before .before .before .before .before .before .before .led-number .ensures)
+    (then (c .before .before .before .before .before .before .before .before .before .before .led-number2 .ensures) (then (c .before .before .before .before .before .before .led-number3 .ensures)
+    (c .before .before .put-byte2 .ensures))))))))
 
 returns : tie.Need-returns
 unfolding sumsText
-returns c = as-text (then (c .before .before .before .before .before .before .before .before .before .before .before .before .before .before .before .before .before .before .before .before .before .before .before .before .before .before .before .before .before .before .put-byte .ensures) (then (c .before .before .before .before .before .before .before .before .before .before .before .before .before .before .before .before .before .before .before .before .before .before .before .before .before .before .put-double .ensures) (then (c .before .before .before .before .before .before .before .before .before .before .before .before .before .before .before .before .before .before .before .before .before .before .led-double .ensures) (then (c .before .before .before .before .before .before .before .before .before .before .before .before .before .before .before .before .before .before .led-double2 .ensures) (then (c .before .before .before .before .before .before .before .before .before .before .before .before .before .before .led-number .ensures) (then (c .before .before .before .before .before .before .before .before .before .before .led-number2 .ensures) (then (c .before .before .before .before .before .before .led-number3 .ensures) (c .before .before .put-byte2 .ensures)))))))) (after (bytes "(") _ _)
+returns c =
+    as-text (then (c .before .before .before .before .before .before .before .before .before .before .before .before .before .before .before .before .before .before .before .before .before .before .before .before .before .before .before .before .before .before .put-byte .ensures)
+    (then (c .before .before .before .before .before .before .before .before .before .before .before .before .before .before .before .before .before .before .before .before .before .before .before .before .before .before .put-double .ensures)
+    (then (c .before .before .before .before .before .before .before .before .before .before .before .before .before .before .before .before .before .before .before .before .before .before .led-double .ensures)
+    (then (c .before .before .before .before .before .before .before .before .before .before .before .before .before .before .before .before .before .before .led-double2 .ensures)
+    (then (c .before .before .before .before .before .before .before .before .before .before .before .before .before .before .led-number .ensures)
+    (then (c .before .before .before .before .before .before .before .before .before .before .led-number2 .ensures) (then (c .before .before .before .before .before .before .led-number3 .ensures)
+    (c .before .before .put-byte2 .ensures)))))))) (after (bytes "(") _ _)
 
 pub put-sums-spec : {M : Type 1} → statement M
 put-sums-spec =

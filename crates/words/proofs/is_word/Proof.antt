@@ -6,7 +6,8 @@ use native.Mathlib.Omega.{arith}
 use borrow.Author.Needs.{needs}
 use lib.Dec.{eqb}
 use lib.ListN.{length, drop, getD}
-use Rattle.words.specs.Words.{wordAt, rowOf}
+use Rattle.words.specs.Words.{wordAt}
+use Rattle.words.specs.Rows.{rowOf}
 use Rattle.words.specs.Rule.{same-length}
 use Rattle.words.proofs.Rows.{rowIs, is-row, row-on, row-off, row-full, row-ends, row-32, word-short}
 use Rattle.words.proofs.is_word.Statement.{statement}
