@@ -14,11 +14,13 @@ use Rattle.definition.specs.Request.{Opening}
 use Rattle.definition.specs.Run.{Run, done, refuse, ask, Reply, Which, shots, distances, new}
 use Rattle.definition.specs.Summary.{Finished}
 use Rattle.definition.specs.Whole.{whole}
+use Rattle.definition.specs.Laws.{Asks}
 use Rattle.definition.specs.declared.Point.{Point}
+use Rattle.definition.proofs.Questions.{asks-now}
 use Rattle.session.specs.Meaning.{sizesFor, wants, rightLength}
 use Rattle.editing.specs.declared.Session.{Session}
 use Rattle.demands.specs.Calls.{Call, reply, resume, Editing, At, restBy, rest, Taking, declines, takes, takingReply, stance, taken, unlessDeclined, after, due, dueTo}
-use Rattle.demands.specs.Standing.{Only, IsNew, News}
+use Rattle.demands.specs.Standing.{IsNew, News}
 use Rattle.forms.specs.Lines.{Entry, Form}
 use Rattle.forms.specs.Lines as form
 use Rattle.forms.specs.Reading.{short}
@@ -63,18 +65,17 @@ module _ (o : Opening) (rs : List Reply) (p : Point) (w : Which) (k : Reply → 
       by distances = few-distances
       by (new d) = omega arith
 
-of-edit : (o : Opening) (p : Point) (w : Which) (k : Reply → Run Finished) → Only IsNew {A = Finished} (ask p w k) → wants (sizesFor o) w ≤ 64
-unfolding Only
-of-edit o p shots k h = absurd (h .0)
-of-edit o p distances k h = absurd (h .0)
-of-edit o p (new d) k h = omega arith
+of-edit : (o : Opening) (p : Point) (w : Which) → IsNew p w → wants (sizesFor o) w ≤ 64
+of-edit o p shots h = absurd h
+of-edit o p distances h = absurd h
+of-edit o p (new d) h = omega arith
 
 asks-few : (s : Session) (o : Opening) (t : At) → Stands s o t → (p : Point) (w : Which) (k : Reply → Run Finished) → rest o t ≡ ask p w k → wants (sizesFor o) w ≤ 64
 asks-few s o t h p w k e = by (t .last) (h .inv .news) e
   where
     by : (l : Option Editing) → News l (restBy (kept o) (t .run) l) → restBy o (t .run) l ≡ ask p w k → wants (sizesFor o) w ≤ 64
     by none n f = wants-few o (t .run) p w k f
-    by (some x) n f = of-edit o p w k (subst (Only IsNew) f n)
+    by (some x) n f = of-edit o p w (asks-now (subst (Asks IsNew 5) f n))
 
 -- ---- more than 65 entries
 

@@ -1,6 +1,7 @@
--- The number of questions is bounded: `count`, `count-without-distances`, `count-of-edit`, `empty-list`. Each named piece of the run has its bound. Assumes nothing.
+-- The questions that the definition puts: one walk over its named pieces says of each how many they are at most and that each has a property. From it: `count`,
+-- `count-without-distances`, `count-of-edit`, `empty-list`, and that hosts play a run alike if they reply alike to its questions. Assumes nothing.
 use Prim.Native.Nat.{ℕ, zero, suc, _+_, _*_, _≤_}
-use mathlib.Core.Path.{_≡_, refl}
+use mathlib.Core.Path.{_≡_, refl, ap, _∙_}
 use mathlib.Core.Bool.{Bool, true, false, cond}
 use mathlib.Core.List.{List, [], _∷_}
 use native.Mathlib.Nat.{suc-add}
@@ -12,275 +13,270 @@ use lib.Ieee.{Float}
 use Rattle.numeric.specs.Numeric.{finite}
 use Rattle.criteria.specs.Criteria.{mvMin, mvMax, bcMin, bcMax, materialOf}
 use Rattle.definition.specs.Lists.{firstAt}
-use Rattle.definition.specs.Laws.{AtMost, put, Count, CountWithoutDistances, CountOfEdit, EmptyList}
-use Rattle.definition.specs.Request.{Observation, Requested, Measured}
-use Rattle.definition.specs.Run.{Run, done, refuse, ask, bind, distances, Reply, refused, entries, Which, Reading, answered, read, unless, require}
+use Rattle.definition.specs.Laws.{Asks, finishes, stops, asks, put, Count, CountWithoutDistances, CountOfEdit, EmptyList}
+use Rattle.definition.specs.Request.{Observation, Requested, Measured, Opening}
+use Rattle.definition.specs.Run.{Run, ask, bind, Reply, refused, entries, Which, shots, distances, new, Reading, answered, read, unless, require}
+use Rattle.definition.specs.Host.{Host, play}
 use Rattle.definition.specs.Likelihood.{Rows, objectiveOf, valued, objective, bcMinus, bcPlus, mvMinus, mvPlus, truingJacobianRows, complete, evaluate, evaluationOf}
 use Rattle.definition.specs.Mesh.{Poll, Pass, Turn, evaluates, ended, turn, onTurn, poll}
 use Rattle.definition.specs.Fit.{Fit, Trial, accepted, exhausted, Step, unfit, to, stepOf, flatOf, onStep, trials, meshed, verified, verify, onTrial, evaluated, iterate, fitMap}
 use Rattle.definition.specs.Summary.{Finished}
-use Rattle.definition.specs.Whole.{withinOf, faultyObservation, soundPriorOf, faultyRequested, checkedPoint, checkedCount, checkedMeasured, checkedRequested, bandRows, baseline, concluded, banded, fitted, run, whole, unlessMissing, asked, Edit, putIn, takeOut, exchange, edit, soundRequestedOf}
+use Rattle.definition.specs.Whole.{withinOf, faultyObservation, soundPriorOf, soundRequestedOf, faultyRequested, checkedPoint, checkedCount, checkedMeasured, checkedRequested}
+use Rattle.definition.specs.Whole.{bandRows, baseline, concluded, banded, fitted, run, whole, Edit, putIn, takeOut, exchange, unlessMissing, asked, edit}
 use Rattle.definition.specs.declared.Point.{Point}
 use Rattle.definition.specs.declared.Evaluation.{Evaluation}
 
--- ---- bounds in general
+-- ---- in general
 
-module _ {A : Type 0} where
+module _ {Q : Point → Which → Type 0} {A : Type 0} where
   -- a larger bound is a bound
-  at-most-more : (m n : ℕ) (t : Run A) → m ≤ n → AtMost m t → AtMost n t
-  unfolding AtMost
-  at-most-more m n (done a) h b = tt
-  at-most-more m n (refuse c i) h b = tt
-  at-most-more zero n (ask p w k) h b = absurd b
-  at-most-more (suc m) zero (ask p w k) h b = absurd (omega arith)
-  at-most-more (suc m) (suc n) (ask p w k) h b = λ r. at-most-more m n (k r) (omega arith) (b r)
+  asks-more : {m n : ℕ} {t : Run A} → Asks Q m t → m ≤ n → Asks Q n t
+  asks-more finishes h = finishes
+  asks-more stops h = stops
+  asks-more {n = zero} (asks q k) h = absurd (omega arith)
+  asks-more {n = suc n} (asks q k) h = asks {n = n} q (λ r. asks-more (k r) (omega arith))
 
   -- what is put is within the bound
-  at-most-put : (n : ℕ) (t : Run A) (rs : List Reply) → AtMost n t → put t rs ≤ n
-  unfolding AtMost
-  at-most-put n (done a) rs b = omega arith
-  at-most-put n (refuse c i) rs b = omega arith
-  at-most-put zero (ask p w k) rs b = absurd b
-  at-most-put (suc n) (ask p w k) [] b = omega arith
-  at-most-put (suc n) (ask p w k) (r ∷ rs) b = omega (arith, at-most-put n (k r) rs (b r))
+  asks-put : {n : ℕ} {t : Run A} (rs : List Reply) → Asks Q n t → put t rs ≤ n
+  asks-put rs finishes = omega arith
+  asks-put rs stops = omega arith
+  asks-put [] (asks q k) = omega arith
+  asks-put (r ∷ rs) (asks q k) = omega (arith, asks-put rs (k r))
 
-  at-most-if : (n : ℕ) (b : Bool) (t u : Run A) → AtMost n t → AtMost n u → AtMost n (cond b t u)
-  at-most-if n true t u h k = h
-  at-most-if n false t u h k = k
+  -- the open question, and what its reply leads to
+  pub asks-now : {n : ℕ} {p : Point} {w : Which} {k : Reply → Run A} → Asks Q n (ask p w k) → Q p w
+  asks-now (asks q k) = q
 
-  done-at-most : (n : ℕ) (a : A) → AtMost n (done a)
-  unfolding AtMost
-  done-at-most n a = tt
+  pub asks-next : {n : ℕ} {p : Point} {w : Which} {k : Reply → Run A} → Asks Q n (ask p w k) → (r : Reply) → Asks Q n (k r)
+  asks-next (asks q k) r = asks-more (k r) (omega arith)
 
-module _ {A B : Type 0} where
+  asks-if : {n : ℕ} (b : Bool) {t u : Run A} → Asks Q n t → Asks Q n u → Asks Q n (cond b t u)
+  asks-if true h k = h
+  asks-if false h k = k
+
+module _ {Q : Point → Which → Type 0} {A B : Type 0} where
   -- one run after another: the bounds add up
-  at-most-bind : (m n : ℕ) (t : Run A) (f : A → Run B) → AtMost m t → ((a : A) → AtMost n (f a)) → AtMost (m + n) (bind t f)
-  unfolding AtMost
-  at-most-bind m n (done a) f h k = at-most-more n (m + n) (f a) (omega arith) (k a)
-  at-most-bind m n (refuse c i) f h k = tt
-  at-most-bind zero n (ask p w g) f h k = absurd h
-  at-most-bind (suc m) n (ask p w g) f h k = rw suc-add (λ r. at-most-bind m n (g r) f (h r) k)
+  asks-bind : {m n : ℕ} {t : Run A} {f : A → Run B} → Asks Q m t → ((a : A) → Asks Q n (f a)) → Asks Q (m + n) (bind t f)
+  asks-bind (finishes {a = a}) k = asks-more (k a) (omega arith)
+  asks-bind stops k = stops
+  asks-bind (asks q g) k = rw suc-add (asks q (λ r. asks-bind (g r) k))
 
--- ---- the pieces
+  -- the first puts none
+  asks-after : {n : ℕ} {t : Run A} {f : A → Run B} → Asks Q 0 t → ((a : A) → Asks Q n (f a)) → Asks Q n (bind t f)
+  asks-after (finishes {a = a}) k = k a
+  asks-after stops k = stops
 
-answered-at-most : (r : Reply) → AtMost 0 (answered r)
-unfolding AtMost
-answered-at-most refused = tt
-answered-at-most (entries es) = tt
+-- hosts that reply alike to every question play alike
+pub same-play : {A : Type 0} {n : ℕ} {t : Run A} (g h : Host) → Asks (λ p w. g p w ≡ h p w) n t → play g t ≡ play h t
+same-play g h finishes = refl
+same-play g h stops = refl
+same-play g h (asks {p = p} {w = w} {k = k} e s) = same-play g h (s (g p w)) ∙ ap (λ (r : Reply). play h (k r)) e
 
-read-at-most : (p : Point) (w : Which) → AtMost 1 (read p w)
-unfolding AtMost
-read-at-most p w = answered-at-most
+-- ---- no question: the tests of a reply and of an opening
 
-module _ {A : Type 0} where
-  unless-at-most : (i c n : ℕ) (t : Run A) → AtMost n t → AtMost n (bind (unless i c) (λ u. t))
-  unfolding AtMost
-  unless-at-most zero c n t h = h
-  unless-at-most (suc i) c n t h = tt
+module _ {Q : Point → Which → Type 0} where
+  asks-require : (b : Bool) (c i : ℕ) → Asks Q 0 (require b c i)
+  asks-require true c i = finishes
+  asks-require false c i = stops
 
-  require-at-most : (b : Bool) (c i n : ℕ) (t : Run A) → AtMost n t → AtMost n (bind (require b c i) (λ u. t))
-  unfolding AtMost
-  require-at-most true c i n t h = h
-  require-at-most false c i n t h = tt
+  asks-unless : (i c : ℕ) → Asks Q 0 (unless i c)
+  asks-unless zero c = finishes
+  asks-unless (suc i) c = stops
 
-valued-at-most : (m : Measured) (p : Point) (r : Reading) → AtMost 0 (valued m p r)
-unfolding valued
-valued-at-most m p r = unless-at-most (r .gap) 11 0 _ (require-at-most (finite (objectiveOf m p (r .drops))) 12 0 0 _ (done-at-most 0 _))
+  asks-missing : (gap place : ℕ) → Asks Q 0 (unlessMissing gap place)
+  asks-missing zero place = finishes
+  asks-missing (suc gap) place = stops
 
-pub objective-at-most : (m : Measured) (p : Point) → AtMost 1 (objective m p)
-unfolding objective
-objective-at-most m p = at-most-bind 1 0 _ _ (read-at-most _ _) (valued-at-most m p)
+  asks-answered : (r : Reply) → Asks Q 0 (answered r)
+  asks-answered refused = stops
+  asks-answered (entries es) = finishes
 
-bc-minus-at-most : (p : Point) (w : Which) (nominal byMv plus : List Float) (gap : ℕ) → AtMost 1 (bcMinus p w nominal byMv plus gap)
-unfolding bcMinus
-bc-minus-at-most p w nominal byMv plus gap = at-most-bind 1 0 _ _ (read-at-most _ _) (λ r. done-at-most 0 _)
+  asks-valued : (m : Measured) (p : Point) (r : Reading) → Asks Q 0 (valued m p r)
+  unfolding valued
+  asks-valued m p r = asks-after (asks-unless (r .gap) 11) (λ u. asks-after (asks-require (finite (objectiveOf m p (r .drops))) 12 0) (λ v. finishes))
 
-bc-plus-at-most : (p : Point) (w : Which) (nominal byMv : List Float) (gap : ℕ) → AtMost 2 (bcPlus p w nominal byMv gap)
-unfolding bcPlus
-bc-plus-at-most p w nominal byMv gap = at-most-bind 1 1 _ _ (read-at-most _ _) (λ r. bc-minus-at-most p w nominal byMv _ _)
+  asks-complete : (number : ℕ) (r : Rows) → Asks Q 0 (complete number r)
+  unfolding complete
+  asks-complete number r = asks-after (asks-unless (r .gap) number) (λ u. finishes)
 
-mv-minus-at-most : (p : Point) (w : Which) (nominal plus : List Float) (gap : ℕ) → AtMost 3 (mvMinus p w nominal plus gap)
-unfolding mvMinus
-mv-minus-at-most p w nominal plus gap = at-most-bind 1 2 _ _ (read-at-most _ _) (λ r. bc-plus-at-most p w nominal _ _)
+  asks-point : (p : Point) → Asks Q 0 (checkedPoint p)
+  unfolding checkedPoint
+  asks-point p = asks-after (asks-require (withinOf mvMin mvMax (p .mv)) 1 1) (λ u. asks-require (withinOf bcMin bcMax (p .bc)) 1 2)
 
-mv-plus-at-most : (p : Point) (w : Which) (nominal : List Float) (gap : ℕ) → AtMost 4 (mvPlus p w nominal gap)
-unfolding mvPlus
-mv-plus-at-most p w nominal gap = at-most-bind 1 3 _ _ (read-at-most _ _) (λ r. mv-minus-at-most p w nominal _ _)
+  asks-count : (obs : List Observation) → Asks Q 0 (checkedCount obs)
+  unfolding checkedCount
+  asks-count obs = asks-after (asks-require (leb 2 (length obs)) 2 0) (λ u. asks-require (leb (length obs) 64) 3 0)
 
-rows-at-most : (p : Point) (w : Which) → AtMost 5 (truingJacobianRows p w)
-unfolding truingJacobianRows
-rows-at-most p w = at-most-bind 1 4 _ _ (read-at-most _ _) (λ r. mv-plus-at-most p w _ _)
+  pub asks-measured : (m : Measured) → Asks Q 0 (checkedMeasured m)
+  unfolding checkedMeasured
+  asks-measured m =
+      asks-after (asks-point (m .entered))
+      (λ u. asks-after (asks-count (m .observations))
+      (λ v. asks-after (asks-unless (firstAt faultyObservation (m .observations)) 4)
+      (λ w. asks-after (asks-require (soundPriorOf mvMin mvMax (m .priors .«muzzle_velocity_fps»)) 5 1)
+      (λ x. asks-require (soundPriorOf bcMin bcMax (m .priors .«ballistic_coefficient»)) 5 2))))
 
-complete-at-most : (number : ℕ) (r : Rows) → AtMost 0 (complete number r)
-unfolding complete
-complete-at-most number r = unless-at-most (r .gap) number 0 _ (done-at-most 0 r)
+  asks-requested : (ds : List Requested) → Asks Q 0 (checkedRequested ds)
+  unfolding checkedRequested
+  asks-requested ds = asks-after (asks-require (leb (length ds) 64) 6 0) (λ u. asks-unless (firstAt faultyRequested ds) 7)
 
-evaluate-at-most : (p : Point) → AtMost 5 (evaluate p)
-unfolding evaluate
-evaluate-at-most p = at-most-bind 5 0 _ _ (rows-at-most _ _) (complete-at-most 11)
+-- ---- the five questions about one list
 
--- ---- the fit
+module _ {Q : Point → Which → Type 0} (w : Which) (h : (p : Point) → Q p w) where
+  asks-read : (p : Point) → Asks Q 1 (read p w)
+  asks-read p = asks (h p) asks-answered
 
-module _ (m : Measured) (p : Point) (current : Float) (e : Evaluation) where
-  on-step-at-most : (n : ℕ) (further : Float → Run Trial) (damping : Float) (s : Step) → ((l : Float) → AtMost n (further l))
-      → AtMost (1 + n) (onStep m p current e further damping s)
-  on-step-at-most n further damping unfit h = at-most-more n (1 + n) _ (omega arith) (h _)
-  on-step-at-most n further damping (to q) h =
-      at-most-bind 1 n _ _ (objective-at-most m q) (λ value. at-most-if n (materialOf current value) _ _ (done-at-most n _) (h _))
+  asks-bc-minus : (p : Point) (nominal byMv plus : List Float) (gap : ℕ) → Asks Q 1 (bcMinus p w nominal byMv plus gap)
+  unfolding bcMinus
+  asks-bc-minus p nominal byMv plus gap = asks-bind {n = 0} (asks-read _) (λ r. finishes)
 
-  trials-at-most : (n : ℕ) (damping : Float) → AtMost n (trials m p current e n damping)
-  unfolding trials
-  trials-at-most zero damping = done-at-most 0 _
-  trials-at-most (suc n) damping = rw (← one-add) (on-step-at-most n _ damping (stepOf p e damping) (trials-at-most n))
+  asks-bc-plus : (p : Point) (nominal byMv : List Float) (gap : ℕ) → Asks Q 2 (bcPlus p w nominal byMv gap)
+  unfolding bcPlus
+  asks-bc-plus p nominal byMv gap = asks-bind (asks-read _) (λ r. asks-bc-minus p nominal byMv _ _)
 
-module _ (m : Measured) where
-  on-turn-at-most : (n : ℕ) (go : Pass → Run Poll) (t : Turn) → ((s : Pass) → AtMost n (go s)) → AtMost (1 + n) (onTurn m go t)
-  on-turn-at-most n go (ended r) h = done-at-most (1 + n) r
-  on-turn-at-most n go (evaluates c s) h = at-most-bind 1 n _ _ (objective-at-most m c) (λ value. h _)
+  asks-mv-minus : (p : Point) (nominal plus : List Float) (gap : ℕ) → Asks Q 3 (mvMinus p w nominal plus gap)
+  unfolding mvMinus
+  asks-mv-minus p nominal plus gap = asks-bind (asks-read _) (λ r. asks-bc-plus p nominal _ _)
 
-  poll-at-most : (n : ℕ) (s : Pass) → AtMost n (poll m n s)
-  unfolding poll
-  poll-at-most zero s = done-at-most 0 _
-  poll-at-most (suc n) s = rw (← one-add) (on-turn-at-most n _ (turn s) (poll-at-most n))
+  asks-mv-plus : (p : Point) (nominal : List Float) (gap : ℕ) → Asks Q 4 (mvPlus p w nominal gap)
+  unfolding mvPlus
+  asks-mv-plus p nominal gap = asks-bind (asks-read _) (λ r. asks-mv-minus p nominal _ _)
 
-  meshed-at-most : (p : Point) (current : Float) (iterations : ℕ) (rows : Rows) → AtMost 1024 (meshed m p current iterations rows)
-  unfolding meshed
-  meshed-at-most p current iterations rows = at-most-bind 1024 0 _ _ (poll-at-most 1024 _) (λ r. done-at-most 0 _)
+  asks-rows : (p : Point) → Asks Q 5 (truingJacobianRows p w)
+  unfolding truingJacobianRows
+  asks-rows p = asks-bind (asks-read p) (λ r. asks-mv-plus p _ _)
 
-  verified-at-most : (p : Point) (current : Float) (iterations : ℕ) (rows : Rows) → AtMost 1029 (verified m p current iterations rows)
-  unfolding verified
-  verified-at-most p current iterations rows =
-      at-most-if 1029 (flatOf (evaluationOf m p rows)) _ _ (done-at-most 1029 _) (at-most-bind 5 1024 _ _ (evaluate-at-most p) (meshed-at-most p current iterations))
+-- ---- the fit asks about the observations
 
-  verify-at-most : (p : Point) (current : Float) (iterations : ℕ) → AtMost 1034 (verify m p current iterations)
-  unfolding verify
-  verify-at-most p current iterations = at-most-bind 5 1029 _ _ (evaluate-at-most p) (verified-at-most p current iterations)
+module _ {Q : Point → Which → Type 0} (s : (p : Point) → Q p shots) where
+  asks-objective : (m : Measured) (p : Point) → Asks Q 1 (objective m p)
+  unfolding objective
+  asks-objective m p = asks-bind (asks-read shots s p) (asks-valued m p)
 
-  on-trial-at-most : (n : ℕ) (go : Point → Float → Float → Run Fit) (none : Run Fit) (t : Trial)
-      → ((q : Point) (value l : Float) → AtMost n (go q value l)) → AtMost n none → AtMost n (onTrial m go none t)
-  on-trial-at-most n go none (accepted q value l) h k = h q value l
-  on-trial-at-most n go none exhausted h k = k
+  pub asks-evaluate : (p : Point) → Asks Q 5 (evaluate p)
+  unfolding evaluate
+  asks-evaluate p = asks-bind (asks-rows shots s p) (asks-complete 11)
 
-  evaluated-at-most : (n : ℕ) (go : Point → Float → Float → Run Fit) (p : Point) (current damping : Float) (iterations : ℕ) (rows : Rows)
-      → 1034 ≤ n → ((q : Point) (value l : Float) → AtMost n (go q value l)) → AtMost (30 + n) (evaluated m go p current damping iterations rows)
-  unfolding evaluated
-  evaluated-at-most n go p current damping iterations rows h k =
-      at-most-if (30 + n) (flatOf (evaluationOf m p rows)) _ _ (done-at-most (30 + n) _)
-      (at-most-bind 30 n _ _ (trials-at-most m p current (evaluationOf m p rows) 30 damping)
-      (λ t. on-trial-at-most n go _ t k (at-most-more 1034 n _ h (verify-at-most p current iterations))))
+  module _ (m : Measured) where
+    module _ (p : Point) (current : Float) (e : Evaluation) where
+      asks-step : (n : ℕ) (further : Float → Run Trial) (damping : Float) (x : Step) → ((l : Float) → Asks Q n (further l))
+          → Asks Q (1 + n) (onStep m p current e further damping x)
+      asks-step n further damping unfit h = asks-more (h _) (omega arith)
+      asks-step n further damping (to q) h = asks-bind (asks-objective m q) (λ value. asks-if (materialOf current value) finishes (h _))
 
-  iterate-at-most : (n : ℕ) (p : Point) (current damping : Float) (iterations : ℕ) → AtMost (n * 35 + 1034) (iterate m n p current damping iterations)
-  unfolding iterate
-  iterate-at-most zero p current damping iterations = verify-at-most p current iterations
-  iterate-at-most (suc n) p current damping iterations =
-      let e : suc n * 35 + 1034 ≡ 5 + (30 + (n * 35 + 1034)) = omega arith in
-      rw e (at-most-bind 5 (30 + (n * 35 + 1034)) _ _ (evaluate-at-most p)
-      (λ rows. evaluated-at-most (n * 35 + 1034) _ p current damping (suc iterations) rows (omega arith)
-      (λ q value l. iterate-at-most n q value l (suc iterations))))
+      asks-trials : (n : ℕ) (damping : Float) → Asks Q n (trials m p current e n damping)
+      unfolding trials
+      asks-trials zero damping = finishes
+      asks-trials (suc n) damping = rw (← one-add) (asks-step n _ damping (stepOf p e damping) (asks-trials n))
 
-  fit-at-most : AtMost 4535 (fitMap m)
-  unfolding fitMap
-  fit-at-most = at-most-bind 1 4534 _ _ (objective-at-most m _) (λ current. iterate-at-most 100 _ current _ 0)
+    asks-turn : (n : ℕ) (go : Pass → Run Poll) (t : Turn) → ((x : Pass) → Asks Q n (go x)) → Asks Q (1 + n) (onTurn m go t)
+    asks-turn n go (ended r) h = finishes
+    asks-turn n go (evaluates c x) h = asks-bind (asks-objective m c) (λ value. h _)
 
--- ---- the opening puts no question
+    asks-poll : (n : ℕ) (x : Pass) → Asks Q n (poll m n x)
+    unfolding poll
+    asks-poll zero x = finishes
+    asks-poll (suc n) x = rw (← one-add) (asks-turn n _ (turn x) (asks-poll n))
 
-required-at-most : (b : Bool) (c i : ℕ) → AtMost 0 (require b c i)
-unfolding AtMost
-required-at-most true c i = tt
-required-at-most false c i = tt
+    asks-meshed : (p : Point) (current : Float) (iterations : ℕ) (rows : Rows) → Asks Q 1024 (meshed m p current iterations rows)
+    unfolding meshed
+    asks-meshed p current iterations rows = asks-bind {n = 0} (asks-poll 1024 _) (λ r. finishes)
 
-left-out-at-most : (i c : ℕ) → AtMost 0 (unless i c)
-unfolding AtMost
-left-out-at-most zero c = tt
-left-out-at-most (suc i) c = tt
+    asks-verified : (p : Point) (current : Float) (iterations : ℕ) (rows : Rows) → Asks Q 1029 (verified m p current iterations rows)
+    unfolding verified
+    asks-verified p current iterations rows =
+        asks-if (flatOf (evaluationOf m p rows)) finishes (asks-bind (asks-evaluate p) (asks-meshed p current iterations))
 
-checked-point-at-most : (p : Point) → AtMost 0 (checkedPoint p)
-unfolding checkedPoint
-checked-point-at-most p = require-at-most (withinOf mvMin mvMax (p .mv)) 1 1 0 _ (required-at-most (withinOf bcMin bcMax (p .bc)) 1 2)
+    asks-verify : (p : Point) (current : Float) (iterations : ℕ) → Asks Q 1034 (verify m p current iterations)
+    unfolding verify
+    asks-verify p current iterations = asks-bind (asks-evaluate p) (asks-verified p current iterations)
 
-checked-count-at-most : (obs : List Observation) → AtMost 0 (checkedCount obs)
-unfolding checkedCount
-checked-count-at-most obs = require-at-most (leb 2 (length obs)) 2 0 0 _ (required-at-most (leb (length obs) 64) 3 0)
+    asks-trial : (n : ℕ) (go : Point → Float → Float → Run Fit) (none : Run Fit) (t : Trial)
+        → ((q : Point) (value l : Float) → Asks Q n (go q value l)) → Asks Q n none → Asks Q n (onTrial m go none t)
+    asks-trial n go none (accepted q value l) h k = h q value l
+    asks-trial n go none exhausted h k = k
 
-checked-measured-at-most : (m : Measured) → AtMost 0 (checkedMeasured m)
-unfolding checkedMeasured
-checked-measured-at-most m =
-    at-most-bind 0 0 _ _ (checked-point-at-most (m .entered))
-    (λ u. at-most-bind 0 0 _ _ (checked-count-at-most (m .observations))
-    (λ v. unless-at-most (firstAt faultyObservation (m .observations)) 4 0 _
-    (require-at-most (soundPriorOf mvMin mvMax (m .priors .«muzzle_velocity_fps»)) 5 1 0 _
-    (required-at-most (soundPriorOf bcMin bcMax (m .priors .«ballistic_coefficient»)) 5 2))))
+    asks-evaluated : (n : ℕ) (go : Point → Float → Float → Run Fit) (p : Point) (current damping : Float) (iterations : ℕ) (rows : Rows)
+        → 1034 ≤ n → ((q : Point) (value l : Float) → Asks Q n (go q value l)) → Asks Q (30 + n) (evaluated m go p current damping iterations rows)
+    unfolding evaluated
+    asks-evaluated n go p current damping iterations rows h k =
+        asks-if (flatOf (evaluationOf m p rows)) finishes
+        (asks-bind (asks-trials p current (evaluationOf m p rows) 30 damping)
+        (λ t. asks-trial n go _ t k (asks-more (asks-verify p current iterations) h)))
 
-checked-requested-at-most : (ds : List Requested) → AtMost 0 (checkedRequested ds)
-unfolding checkedRequested
-checked-requested-at-most ds = require-at-most (leb (length ds) 64) 6 0 0 _ (left-out-at-most (firstAt faultyRequested ds) 7)
+    asks-iterate : (n : ℕ) (p : Point) (current damping : Float) (iterations : ℕ) → Asks Q (n * 35 + 1034) (iterate m n p current damping iterations)
+    unfolding iterate
+    asks-iterate zero p current damping iterations = asks-verify p current iterations
+    asks-iterate (suc n) p current damping iterations =
+        let e : suc n * 35 + 1034 ≡ 5 + (30 + (n * 35 + 1034)) = omega arith in
+        rw e (asks-bind (asks-evaluate p)
+        (λ rows. asks-evaluated (n * 35 + 1034) _ p current damping (suc iterations) rows (omega arith)
+        (λ q value l. asks-iterate n q value l (suc iterations))))
 
--- ---- the run; n is 5 with distances and 0 without
+    pub asks-fit : Asks Q 4535 (fitMap m)
+    unfolding fitMap
+    asks-fit = asks-bind (asks-objective m _) (λ current. asks-iterate 100 _ current _ 0)
 
-band-rows-at-most : (p : Point) (ds : List Requested) → AtMost 5 (bandRows p ds)
+  -- ---- the run asks about the observations, and about the distances where there are any
+
+  asks-baseline : (m : Measured) → Asks Q 1 (baseline m)
+  unfolding baseline
+  asks-baseline m = asks (s _) (λ r. finishes)
+
+  -- n is 5 with distances and 0 without
+  asks-run : (n : ℕ) (o : Opening) → ((p : Point) → Asks Q n (bandRows p (o .requested))) → Asks Q (4535 + (5 + (n + 1))) (whole o)
+  unfolding whole run fitted banded concluded
+  asks-run n o h =
+      asks-after (asks-measured (o .measured))
+      (λ u. asks-after (asks-requested (o .requested))
+      (λ v. asks-bind (asks-fit (o .measured))
+      (λ f. asks-bind (asks-evaluate (f .point))
+      (λ rows. asks-bind (h (f .point))
+      (λ bands. asks-bind {n = 0} (asks-baseline (o .measured)) (λ b. finishes))))))
+
+asks-bands : {Q : Point → Which → Type 0} → ((p : Point) → Q p distances) → (p : Point) (ds : List Requested) → Asks Q 5 (bandRows p ds)
 unfolding bandRows
-band-rows-at-most p [] = done-at-most 5 _
-band-rows-at-most p (d ∷ ds) = at-most-bind 5 0 _ _ (rows-at-most p distances) (complete-at-most 13)
+asks-bands h p [] = finishes
+asks-bands h p (d ∷ ds) = asks-bind (asks-rows distances h p) (asks-complete 13)
+
+pub asks-whole : {Q : Point → Which → Type 0} → ((p : Point) → Q p shots) → ((p : Point) → Q p distances) → (o : Opening) → Asks Q 4546 (whole o)
+asks-whole s h o = asks-run s 5 o (λ p. asks-bands h p (o .requested))
 
 pub empty-list : EmptyList
 unfolding bandRows
 empty-list p = refl
 
-no-band-rows-at-most : (p : Point) → AtMost 0 (bandRows p [])
-no-band-rows-at-most p = rw empty-list (done-at-most 0 _)
-
-baseline-at-most : (m : Measured) → AtMost 1 (baseline m)
-unfolding baseline AtMost
-baseline-at-most m r = tt
-
-module _ (m : Measured) (ds : List Requested) where
-  concluded-at-most : (f : Fit) (e : Evaluation) (drops : List Float) (bands : Rows) → AtMost 1 (concluded m ds f e drops bands)
-  unfolding concluded
-  concluded-at-most f e drops bands = at-most-bind 1 0 _ _ (baseline-at-most m) (λ b. done-at-most 0 _)
-
-  module _ (n : ℕ) (h : (p : Point) → AtMost n (bandRows p ds)) where
-    banded-at-most : (f : Fit) (e : Evaluation) (drops : List Float) → AtMost (n + 1) (banded m ds f e drops)
-    unfolding banded
-    banded-at-most f e drops = at-most-bind n 1 _ _ (h _) (concluded-at-most f e drops)
-
-    fitted-at-most : (f : Fit) → AtMost (5 + (n + 1)) (fitted m ds f)
-    unfolding fitted
-    fitted-at-most f = at-most-bind 5 (n + 1) _ _ (evaluate-at-most _) (λ rows. banded-at-most f _ _)
-
-    run-at-most : AtMost (4535 + (5 + (n + 1))) (run m ds)
-    unfolding run
-    run-at-most = at-most-bind 4535 (5 + (n + 1)) _ _ (fit-at-most m) fitted-at-most
-
-    whole-at-most : AtMost (0 + (0 + (4535 + (5 + (n + 1))))) (whole (record { measured = m; requested = ds }))
-    unfolding whole
-    whole-at-most =
-        at-most-bind 0 (0 + (4535 + (5 + (n + 1)))) _ _ (checked-measured-at-most m)
-        (λ u. at-most-bind 0 (4535 + (5 + (n + 1))) _ _ (checked-requested-at-most ds) (λ v. run-at-most))
-
 pub count : Count
-count o rs = at-most-put 4546 (whole o) rs (whole-at-most (o .measured) (o .requested) 5 (λ p. band-rows-at-most p (o .requested)))
+count o rs = asks-put {Q = λ p w. Unit {0}} rs (asks-whole (λ p. tt) (λ p. tt) o)
 
 pub count-without-distances : CountWithoutDistances
-count-without-distances m rs = at-most-put 4541 _ rs (whole-at-most m [] 0 no-band-rows-at-most)
+count-without-distances m rs = asks-put {Q = λ p w. Unit {0}} rs (asks-run (λ p. tt) 0 _ (λ p. rw empty-list finishes))
 
--- ---- an edit
+-- ---- an edit asks about its new distance
 
-unless-missing-at-most : {A : Type 0} (i place n : ℕ) (t : Run A) → AtMost n t → AtMost n (bind (unlessMissing i place) (λ u. t))
-unfolding AtMost
-unless-missing-at-most zero place n t h = h
-unless-missing-at-most (suc i) place n t h = tt
+-- the property, for questions about the edit's new distance
+abbrev pub OfNew : (Point → Which → Type 0) → Edit → Type 0
+OfNew Q (putIn i d) = (p : Point) → Q p (new (d .range))
+OfNew Q (takeOut i) = Unit {0}
+OfNew Q (exchange i d) = (p : Point) → Q p (new (d .range))
 
-asked-at-most : (c : Finished) (e : Edit) (place : ℕ) (d : Requested) → AtMost 5 (asked c e place d)
-unfolding asked
-asked-at-most c e place d =
-    at-most-bind 5 0 _ _ (rows-at-most _ _) (λ one. unless-missing-at-most (one .gap) place 0 _ (done-at-most 0 _))
+pub every-new : (Q : Point → Which → Type 0) → ((p : Point) (x : Float) → Q p (new x)) → (e : Edit) → OfNew Q e
+every-new Q h (putIn i d) = λ p. h p (d .range)
+every-new Q h (takeOut i) = tt
+every-new Q h (exchange i d) = λ p. h p (d .range)
 
-edit-at-most : (c : Finished) (e : Edit) → AtMost 5 (edit c e)
-unfolding edit
-edit-at-most c (putIn i d) =
-    require-at-most (ltb (length (c .requested)) 64) 6 0 5 _ (require-at-most (soundRequestedOf d) 7 i 5 _ (asked-at-most c (putIn i d) i d))
-edit-at-most c (takeOut i) = done-at-most 5 _
-edit-at-most c (exchange i d) = require-at-most (soundRequestedOf d) 7 i 5 _ (asked-at-most c (exchange i d) i d)
+module _ {Q : Point → Which → Type 0} where
+  asks-asked : (c : Finished) (e : Edit) (place : ℕ) (d : Requested) → ((p : Point) → Q p (new (d .range))) → Asks Q 5 (asked c e place d)
+  unfolding asked
+  asks-asked c e place d h = asks-bind {n = 0} (asks-rows (new (d .range)) h (c .fit .point)) (λ one. asks-after (asks-missing (one .gap) place) (λ u. finishes))
+
+  pub asks-edit : (c : Finished) (e : Edit) → OfNew Q e → Asks Q 5 (edit c e)
+  unfolding edit
+  asks-edit c (putIn i d) h =
+      asks-after (asks-require (ltb (length (c .requested)) 64) 6 0)
+      (λ u. asks-after (asks-require (soundRequestedOf d) 7 i) (λ v. asks-asked c (putIn i d) i d h))
+  asks-edit c (takeOut i) h = finishes
+  asks-edit c (exchange i d) h = asks-after (asks-require (soundRequestedOf d) 7 i) (λ v. asks-asked c (exchange i d) i d h)
 
 pub count-of-edit : CountOfEdit
-count-of-edit c e rs = at-most-put 5 (edit c e) rs (edit-at-most c e)
+count-of-edit c e rs = asks-put {Q = λ p w. Unit {0}} rs (asks-edit c e (every-new _ (λ p x. tt) e))

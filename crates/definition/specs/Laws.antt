@@ -1,5 +1,5 @@
 -- What holds of every run of the definition. The theorems stand in proofs/ under the names that stand here:
--- Questions.antt (the number of questions), Polls.antt, Fits.antt, Warnings.antt, Ranges.antt, Presence.antt.
+-- Questions.antt (the questions and their number), Polls.antt, Fits.antt, Warnings.antt, Ranges.antt, Presence.antt.
 -- That the fit, the evaluation at the fit and the baseline do not see the requested distances needs no theorem: `fitMap`, `evaluate` and `baseline` take no list
 -- of them (Fit.antt, Likelihood.antt, Whole.antt), and `run` hands `fitMap` the `Measured` alone.
 use Prim.Native.Nat.{ℕ, zero, suc, _+_, _≤_}
@@ -17,7 +17,7 @@ use Rattle.interval.specs.declared.GaussianIntervalV1.{GaussianIntervalV1}
 use Rattle.criteria.specs.Criteria.{atBoundOf}
 use Rattle.definition.specs.Constants.{firstRadius, leastRadius}
 use Rattle.definition.specs.Request.{Measured, Opening}
-use Rattle.definition.specs.Run.{Run, done, refuse, ask, Reply}
+use Rattle.definition.specs.Run.{Run, done, refuse, ask, Reply, Which}
 use Rattle.definition.specs.Mesh.{Convergence, notConverged, scaledGradient, objectiveMesh, Poll, Pass, evaluates, turn, seen, poll, firstPass, quarteredOf}
 use Rattle.definition.specs.Fit.{found, polled}
 use Rattle.definition.specs.Summary.{interval95, Approximation, available, covarianceOf, correlationOf, approximationOf, Finished, reportOf}
@@ -27,16 +27,15 @@ use Rattle.definition.specs.declared.TruingGaussianApproximationV1.{Trui
 use Rattle.definition.specs.declared.TruingUncertaintyWarningCodeV1.the-variants as Warning
 use Rattle.definition.specs.declared.TruingUncertaintyWarningCodeV1.{TruingUncertaintyWarningCodeV1}
 
--- ---- the number of questions
+-- ---- the questions
+
+-- Whatever is replied, at most so many questions are put, and each has the property, which is about its point and its list.
+pub data Asks (Q : Point → Which → Type 0) {A : Type 0} : ℕ → Run A → Type 0 where
+  finishes : {n : ℕ} {a : A} → Asks Q n (done a)
+  stops : {n c i : ℕ} → Asks Q n (refuse c i)
+  asks : {n : ℕ} {p : Point} {w : Which} {k : Reply → Run A} → Q p w → ((r : Reply) → Asks Q n (k r)) → Asks Q (suc n) (ask p w k)
 
 module _ {A : Type 0} where
-  -- whatever is replied, at most so many questions are put
-  unfoldable pub AtMost : ℕ → Run A → Type 0
-  AtMost n (done a) = Unit {0}
-  AtMost n (refuse c i) = Unit {0}
-  AtMost zero (ask p w k) = ⊥
-  AtMost (suc n) (ask p w k) = (r : Reply) → AtMost n (k r)
-
   -- how many questions are put when these replies are given, the open one included
   abbrev pub put : Run A → List Reply → ℕ
   put (done a) rs = 0

@@ -13,7 +13,9 @@ use Rattle.definition.specs.Run.{Run, done, refuse, ask, Reply, refused, entrie
 use Rattle.definition.specs.Host.{Outcome, ends, refuses, Host, play, questions}
 use Rattle.definition.specs.Summary.{Finished, Report, reportOf}
 use Rattle.definition.specs.Whole.{whole, Edit, putIn, takeOut, exchange, edited, placed, edit}
+use Rattle.definition.specs.Laws.{Asks}
 use Rattle.definition.specs.declared.Point.{Point}
+use Rattle.definition.proofs.Questions.{asks-now, asks-next, asks-whole, asks-edit}
 use Rattle.likelihood.specs.Arrays.{entriesOf}
 use Rattle.fresh.specs.Solver.{Solver, replyAt, hostOf, withList, fresh, BandAlone}
 use Rattle.fresh.proofs.Edits.{edit-fresh, list-kept}
@@ -21,8 +23,6 @@ use Rattle.fresh.proofs.Reports.{only-band}
 use Rattle.session.specs.Meaning.{Said, report, refusal, head, kindOf, sizesFor, wants, rightLength}
 use Rattle.demands.specs.Calls.{Call, reply, refusePoint, change, resume, Editing, At, first, rest, keptBy, finishedBy, finishedAt, reportBy, Taking, declines, takes, takingReply, takingRefusal, takingEdit, stance, withReply, withEdit, taken, unlessDeclined, after, due, dueTo}
 use Rattle.demands.specs.Book.{sizeOf, heard, Where, inRun, idle, inEdit, Book, isReport, opened, reports, ruledReply, ruledRefusal, ruledEdit, ruled, standsBy, settled, editHeard, runHeard, replyHeard, callHeard, booked, Question, aboutOf, questionIn, Trail, repliesWith, begun, followed, Replies, Comes, FromSolver, saidBy, reportFrom, Ends, Edits, standing, Holds}
-use Rattle.demands.specs.Standing.{Only}
-use Rattle.demands.proofs.Questions.{only-whole, only-edit}
 
 -- ---- in general
 
@@ -77,15 +77,15 @@ module _ (o : Opening) (run : List Reply) where
 -- ---- the invariant
 
 module _ (σ : Solver) (o : Opening) where
-  -- the host's reply to a question about these distances is the solver's, while the session stands so
-  abbrev Suits : Host → (ℕ → Where) → Which → Type 0
-  Suits h at w = (n : ℕ) (p : Point) → h p w ≡ replyAt σ p (aboutOf o (at n) (kindOf w))
+  -- the host's reply to this question is the solver's, while the session stands so
+  abbrev Suits : Host → (ℕ → Where) → Point → Which → Type 0
+  Suits h at p w = (n : ℕ) → h p w ≡ replyAt σ p (aboutOf o (at n) (kindOf w))
 
   -- what is left of the run comes to the fresh outcome of the opening's list
   record RunGoes (kept : Option Finished) (left : Run Finished) (list : List Requested) (replies : ℕ) : Type 0 where
     pub none-kept : kept ≡ none
     pub listed : list ≡ o .requested
-    pub suits : Only (Suits (hostOf σ o) inRun) left
+    pub suits : Asks (Suits (hostOf σ o) inRun) 4546 left
     pub plays : play (hostOf σ o) left ≡ fresh σ o (o .requested)
     pub counted : replies + questions (hostOf σ o) left ≡ questions (hostOf σ o) (whole o)
 
@@ -96,7 +96,7 @@ module _ (σ : Solver) (o : Opening) where
     pub before : fresh σ o list ≡ ends was
     pub reported : reports σ o (o .requested) ≡ true
     pub fits : placed e (length list) ≡ true
-    pub suits : Only (Suits (hostOf σ (withList o list)) (λ n. inEdit n e)) left
+    pub suits : Asks (Suits (hostOf σ (withList o list)) (λ n. inEdit n e)) 5 left
     pub plays : play (hostOf σ (withList o list)) left ≡ fresh σ o (edited e list)
     pub counted : replies + questions (hostOf σ (withList o list)) left ≡ questions (hostOf σ (withList o list)) (edit was e)
 
@@ -184,7 +184,7 @@ module _ (σ : Solver) (o : Opening) where
 
   first-goes : RunGoes σ o none (whole o) (o .requested) 0
   unfolding fresh
-  first-goes = record { none-kept = refl; listed = refl; suits = only-whole _ (λ n p. refl) (λ n p. refl) o; plays = refl; counted = omega arith }
+  first-goes = record { none-kept = refl; listed = refl; suits = asks-whole (λ p n. refl) (λ p n. refl) o; plays = refl; counted = omega arith }
 
   opened-so : (h : Option ℕ) → opened o h ≡ runHeard σ o (o .requested) h
   opened-so (some n) = refl
@@ -275,17 +275,16 @@ module _ (σ : Solver) (o : Opening) where
 
 module _ (σ : Solver) (o : Opening) (t : At) where
   -- a reply from the solver is the host's, so what is left comes to what it came to
-  goes-on : (h : Host) (at : ℕ → Where) (n : ℕ) (asked : Option Question) (r : Reply) (left : Run Finished) → rest o t ≡ left → Opens σ o at n left asked
-      → Only (Suits σ o h at) left → Replies σ asked r
-      → Only (Suits σ o h at) (rest o (withReply (t .run) (t .last) r)) × (play h (rest o (withReply (t .run) (t .last) r)) ≡ play h left)
+  goes-on : {most : ℕ} (h : Host) (at : ℕ → Where) (n : ℕ) (asked : Option Question) (r : Reply) (left : Run Finished) → rest o t ≡ left → Opens σ o at n left asked
+      → Asks (Suits σ o h at) most left → Replies σ asked r
+      → Asks (Suits σ o h at) most (rest o (withReply (t .run) (t .last) r)) × (play h (rest o (withReply (t .run) (t .last) r)) ≡ play h left)
       × (suc (questions h (rest o (withReply (t .run) (t .last) r))) ≡ questions h left)
-  unfolding Only
   goes-on h at n asked r (done c) e s w q = not-none (sym (s .hears))
   goes-on h at n asked r (refuse m i) e s w q = not-none (sym (s .hears))
-  goes-on h at n asked r (ask p v k) e s w q =
+  goes-on {most} h at n asked r (ask p v k) e s w q =
       let next : rest o (withReply (t .run) (t .last) r) ≡ k r = rest-more o (t .run) (t .last) r p v k e in
-      let same : r ≡ h p v = subst (λ (x : Option Question). Replies σ x r) (s .asks) q ∙ sym (w .0 n p) in
-      (subst (Only (Suits σ o h at)) (sym next) (w .1 r), ap (play h) next ∙ ap (λ (x : Reply). play h (k x)) same, ap (λ (x : Run Finished). suc (questions h x)) next ∙ ap (λ (x : Reply). suc (questions h (k x))) same)
+      let same : r ≡ h p v = subst (λ (x : Option Question). Replies σ x r) (s .asks) q ∙ sym (asks-now w n) in
+      (subst (Asks (Suits σ o h at) most) (sym next) (asks-next w r), ap (play h) next ∙ ap (λ (x : Reply). play h (k x)) same, ap (λ (x : Run Finished). suc (questions h x)) next ∙ ap (λ (x : Reply). suc (questions h (k x))) same)
 
 module _ (σ : Solver) (o : Opening) (t : At) (u : Trail) (a : Agrees σ o t u) where
   abbrev list : List Requested
@@ -319,10 +318,10 @@ module _ (σ : Solver) (o : Opening) (t : At) (u : Trail) (a : Agrees σ o t u) 
         counted = omega (arith, s .0 .counted, g .2);
       }
 
-  suits-new : (e : Edit) (c : Finished) → Only (Suits σ o (hostOf σ (withList o list)) (λ n. inEdit n e)) (edit c e)
-  suits-new (putIn i d) c = only-edit _ c (putIn i d) (λ n p. refl)
-  suits-new (takeOut i) c = only-edit _ c (takeOut i) tt
-  suits-new (exchange i d) c = only-edit _ c (exchange i d) (λ n p. refl)
+  suits-new : (e : Edit) (c : Finished) → Asks (Suits σ o (hostOf σ (withList o list)) (λ n. inEdit n e)) 5 (edit c e)
+  suits-new (putIn i d) c = asks-edit c (putIn i d) (λ p n. refl)
+  suits-new (takeOut i) c = asks-edit c (takeOut i) tt
+  suits-new (exchange i d) c = asks-edit c (exchange i d) (λ p n. refl)
 
   -- an edit, made where this finished run stands
   abbrev Changed : Edit → Option Finished → Type 0

@@ -17,9 +17,9 @@ use Rattle.definition.specs.Likelihood as likelihood
 use Rattle.definition.specs.Fit as fit
 use Rattle.definition.specs.Summary.{Finished, Report, reportOf}
 use Rattle.definition.specs.Whole.{Edit, putIn, takeOut, exchange, placed, edit, whole, run, checkedMeasured, checkedRequested}
-use Rattle.definition.specs.Laws.{put}
+use Rattle.definition.specs.Laws.{Asks, put}
 use Rattle.definition.specs.declared.Point.{Point}
-use Rattle.definition.proofs.Questions.{count, count-of-edit}
+use Rattle.definition.proofs.Questions.{asks-now, asks-next, asks-edit, every-new, count, count-of-edit}
 use Rattle.fitting.proofs.Laws.{bind-assoc}
 use Rattle.fresh.specs.Solver.{Solver, hostOf, fresh}
 use Rattle.likelihood.specs.Arrays.{entriesOf}
@@ -34,8 +34,7 @@ use Rattle.demands.specs.Book.{heard, opened, ruled, Ends, Edits, standi
 use Rattle.demands.specs.Demands as stated
 use Rattle.demands.specs.Demands.{Made, Meets, Chained, Throughout, ReadsAs, checked, OpensProperly, countedSaid, mostOf, EndsProperly, Demand1, OpensAsDefined, AsDefined, Demand2, Changes, editedFrom, nextTrail, AllFrom, OpensFresh, EndsFresh, beforeEdit, Along, Demand3}
 use Rattle.demands.specs.Example as example
-use Rattle.demands.specs.Standing.{Only, IsNew, News, Inv}
-use Rattle.demands.proofs.Questions.{only-edit}
+use Rattle.demands.specs.Standing.{IsNew, News, Inv}
 use Rattle.demands.proofs.Book.{resume-more, rest-more, kept-more, Agrees, agrees-first, agrees-ruled, agrees-next, agrees-holds, agrees-changes, agrees-opened, opened-stops}
 
 -- ---- the count
@@ -127,23 +126,15 @@ report-after kept (ask p w k) = refl
 inv-reads : (o : Opening) (t : At) (s : Session) → Inv o t s → ReadsAs s (reportBy (finishedAt o t))
 inv-reads o t s h = reads-as s (reportBy (finishedAt o t)) (ap reportIn (h .leads) ∙ report-after (keptBy (t .last)) (rest o t))
 
-news-edit : (c : Finished) (e : Edit) → Only IsNew (edit c e)
-news-edit c (putIn i d) = only-edit IsNew c (putIn i d) tt
-news-edit c (takeOut i) = only-edit IsNew c (takeOut i) tt
-news-edit c (exchange i d) = only-edit IsNew c (exchange i d) tt
+news-edit : (c : Finished) (e : Edit) → Asks IsNew 5 (edit c e)
+news-edit c e = asks-edit c e (every-new IsNew (λ p x. tt) e)
 
 -- how many entries the open question wants: by the opening, or one
 same-wants : (last : Option Editing) (p : Point) (w : Which) (k : Reply → Run Finished) (z y : Sizes) → Sized (keptBy last) z y → News last (ask p w k) → wants y w ≡ wants z w
-unfolding Only
 same-wants none p w k z y d n = ap (λ (x : Sizes). wants x w) d
-same-wants (some x) p shots k z y d n = absurd (n .0)
-same-wants (some x) p distances k z y d n = absurd (n .0)
+same-wants (some x) p shots k z y d n = absurd (asks-now n)
+same-wants (some x) p distances k z y d n = absurd (asks-now n)
 same-wants (some x) p (new f) k z y d n = refl
-
-next-news : (last : Option Editing) (p : Point) (w : Which) (k : Reply → Run Finished) (r : Reply) → News last (ask p w k) → News last (k r)
-unfolding Only
-next-news none p w k r n = tt
-next-news (some x) p w k r n = n .1 r
 
 abbrev ofOr : Finished → Option Editing → Finished
 ofOr d none = d
@@ -260,7 +251,7 @@ module _ (o : Opening) where
         record {
           leads = d .leads ∙ ap (meaning.after (some (x .of))) (sym goes);
           sized = tt;
-          news = subst (Only IsNew) (sym goes) (next-news (some x) p w k r (subst (Only IsNew) at (h .news)));
+          news = subst (Asks IsNew 5) (sym goes) (asks-next (subst (Asks IsNew 5) at (h .news)) r);
           counts = d .counts ∙ h .counts;
         },
         d .counts,

@@ -1,4 +1,3 @@
-pub mod Questions
 pub mod Book
 pub mod Demands
 pub mod Example

@@ -1,5 +1,4 @@
 pub mod Lists
-pub mod Shots
 pub mod Rows
 pub mod Runs
 pub mod Edits

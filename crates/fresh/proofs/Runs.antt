@@ -13,9 +13,10 @@ use Rattle.definition.specs.Likelihood.{Rows, truingJacobianRows, complete, eva
 use Rattle.definition.specs.Fit.{Fit, fitMap}
 use Rattle.definition.specs.Summary.{Finished, baselineOf, rangesOf}
 use Rattle.definition.specs.Whole.{faultyRequested, checkedMeasured, checkedRequested, bandRows, baseline, concluded, banded, fitted, run, whole}
+use Rattle.definition.specs.Laws.{Asks}
 use Rattle.definition.specs.declared.Point.{Point}
+use Rattle.definition.proofs.Questions.{same-play, asks-measured, asks-evaluate, asks-fit}
 use Rattle.fresh.specs.Solver.{Solver, distancesOf, hostOf, withList, fresh}
-use Rattle.fresh.proofs.Shots.{OfShots, same-play, of-evaluate, of-fit, of-measured}
 use Rattle.fresh.proofs.Rows.{not-ends, andThen, play-bind, lacks, rowsWith, Served, five, five-served}
 
 -- what an outcome that goes on to an end went through
@@ -126,12 +127,13 @@ module _ (σ : Solver) (o : Opening) where
   -- ---- another list
 
   module _ (l : List Requested) (c : Finished) (w : Came l c) (k : List Requested) where
-    moved : {A : Type 0} (t : Run A) (a : A) → OfShots t → play (with l) t ≡ ends a → play (with k) t ≡ ends a
-    moved t a s e = same-play (with k) (with l) (λ p. refl) t s ∙ e
+    -- what asks about the observations alone comes to the same: the hosts reply alike there
+    moved : {A : Type 0} {n : ℕ} {t : Run A} {a : A} → Asks (λ p w. with k p w ≡ with l p w) n t → play (with l) t ≡ ends a → play (with k) t ≡ ends a
+    moved s e = same-play (with k) (with l) s ∙ e
 
     entered : fresh σ o k ≡ play (with k) (bind (checkedRequested k) (λ v. run (o .measured) k))
     unfolding fresh whole
-    entered = play-then (with k) (checkedMeasured (o .measured)) _ tt (moved _ tt (of-measured (o .measured)) (w .checked))
+    entered = play-then (with k) (checkedMeasured (o .measured)) _ tt (moved (asks-measured (o .measured)) (w .checked))
 
     pub again : leb (length k) 64 ≡ true → firstAt faultyRequested k ≡ 0 → fresh σ o k ≡ closing (gapAt σ (w .fit .point) k) (finishedAt σ o k (w .fit) (w .rows))
     unfolding run fitted checkedRequested
@@ -139,8 +141,8 @@ module _ (σ : Solver) (o : Opening) where
         let m = o .measured in
         entered
         ∙ rw (room, sound)
-        (play-then (with k) (fitMap m) (fitted m k) (w .fit) (moved _ _ (of-fit m) (w .fits))
-        ∙ play-then (with k) (evaluate (w .fit .point)) _ (w .rows) (moved _ _ (of-evaluate _) (w .evaluated))
+        (play-then (with k) (fitMap m) (fitted m k) (w .fit) (moved (asks-fit (λ p. refl) m) (w .fits))
+        ∙ play-then (with k) (evaluate (w .fit .point)) _ (w .rows) (moved (asks-evaluate (λ p. refl) _) (w .evaluated))
         ∙ banded-play k (w .fit) (w .rows) (w .served))
 
     pub again-faulty : (j : ℕ) → leb (length k) 64 ≡ true → firstAt faultyRequested k ≡ suc j → fresh σ o k ≡ refuses 7 (suc j)
