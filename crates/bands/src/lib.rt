@@ -27,7 +27,7 @@ pub struct TruingPredictiveBandV1 {
 }
 
 // The variance of a predicted drop, by the scaled slopes. Rounding can make it a little negative, which counts as 0.
-pub fn band_variance(q: Symmetric2, g_mv: f64, g_bc: f64) -> Number
+fn band_variance(q: Symmetric2, g_mv: f64, g_bc: f64) -> Number
     ensures { λ r. ⌜ numberOf r ≡ bandVarianceOf q «g_mv» «g_bc» ⌝ }
 {
     let mv_part = g_mv * g_mv * q.a00;
@@ -45,7 +45,7 @@ pub fn band_variance(q: Symmetric2, g_mv: f64, g_bc: f64) -> Number
 }
 
 // The interval of the predicted drop itself.
-pub fn latent(q: Symmetric2, row: Row) -> Interval
+fn latent(q: Symmetric2, row: Row) -> Interval
     ensures { λ r. ⌜ says r ≡ latentOf q row ⌝ }
 {
     let found = band_variance(
@@ -59,7 +59,7 @@ pub fn latent(q: Symmetric2, row: Row) -> Interval
     }
 }
 
-pub fn latent_with(a: TruingApproximationV1, row: Row) -> Interval
+fn latent_with(a: TruingApproximationV1, row: Row) -> Interval
     ensures { λ r. ⌜ says r ≡ latentWith (approximationSays a) row ⌝ }
 {
     match a {
@@ -69,7 +69,7 @@ pub fn latent_with(a: TruingApproximationV1, row: Row) -> Interval
 }
 
 // For a future observation, where its sigma is given and the latent interval is there.
-pub fn future(predicted: f64, latent: Interval, sigma: Number) -> Interval
+fn future(predicted: f64, latent: Interval, sigma: Number) -> Interval
     ensures { λ r. ⌜ says r ≡ futureOf predicted (says latent) (numberOf sigma) ⌝ }
 {
     match latent {

@@ -6,13 +6,13 @@ mod protocol;
 mod rounding;
 mod say;
 
+use definition::Distances;
 use definition::Point;
+use definition::Step;
 use editing::Answer;
 use editing::Session;
 use lot::Lot;
 use numeric::DropUnit;
-use session::Distances;
-use session::Step;
 
 fn say_heading() {
     say::text(

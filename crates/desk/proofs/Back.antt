@@ -8,7 +8,7 @@ use lib.Dec.{T}
 use lib.ListN.{length, take, drop}
 use lib.Ieee.{Float, nan, binary64, fits, ofBits, toBits}
 use lib.Ieee.Bits.{ofBits-toBits, toBits-lt}
-use Rattle.likelihood.specs.Laws.{over-take}
+use Rattle.likelihood.proofs.Laws.{over-take}
 use Rattle.desk.specs.Desk.{numberOf, numberAt, doubleAt, lowest, bytesOf, doubleBytes, putAt}
 
 number-back : (k p : ℕ) → p < 256 ^ k → numberOf (lowest k p) ≡ p

@@ -13,14 +13,15 @@ use lib.Seq.{getD-drop}
 use lib.Ieee.{Float, nan, toBits, binary64}
 use Rattle.numeric.specs.Numeric.{zero64}
 use Rattle.likelihood.specs.Arrays.{over}
-use Rattle.likelihood.specs.Laws.{over-suc, over-all, over-take}
+use Rattle.likelihood.proofs.Laws.{over-suc, over-all, over-take}
 use Rattle.matrix.specs.Matrix.{Inverted, inverseOf}
 use Rattle.matrix.specs.declared.Symmetric2.{Symmetric2}
 use Rattle.definition.specs.Likelihood.{chiSquareOf, withPriorsOf}
 use Rattle.definition.specs.Meaning.{observationsOf}
 use Rattle.definition.specs.declared.Point.{Point}
 use Rattle.definition.specs.declared.TruingPriorsV1.{TruingPriorsV1}
-use Rattle.desk.specs.Desk.{numberOf, numberAt, doubleAt, columnOf, lowest, bytesOf, doubleBytes, putAt, Outcome, sumOf, sumOutcome, invertedOutcome, inverseOutcome}
+use Rattle.desk.specs.Desk.{numberOf, numberAt, doubleAt, columnOf, lowest, bytesOf, doubleBytes, putAt, Outcome, sumOf, sumOutcome, invertedOutcome}
+use Rattle.desk.specs.Desk.{inverseOutcome}
 
 -- ---- reading
 
@@ -37,7 +38,8 @@ first-8 (b0 ∷ b1 ∷ b2 ∷ b3 ∷ b4 ∷ b5 ∷ b6 ∷ b7 ∷ l) h = refl
 
 -- 8 bytes, each read by its index
 pub read-8 : (bytes : List ℕ) (i : ℕ) → i + 8 ≤ length bytes
-    → numberOf (getD bytes i 0 ∷ getD bytes (i + 1) 0 ∷ getD bytes (i + 2) 0 ∷ getD bytes (i + 3) 0 ∷ getD bytes (i + 4) 0 ∷ getD bytes (i + 5) 0 ∷ getD bytes (i + 6) 0 ∷ getD bytes (i + 7) 0 ∷ []) ≡ numberAt i bytes
+    → numberOf (getD bytes i 0 ∷ getD bytes (i + 1) 0 ∷ getD bytes (i + 2) 0 ∷ getD bytes (i + 3) 0 ∷ getD bytes (i + 4) 0 ∷ getD bytes (i + 5) 0
+    ∷ getD bytes (i + 6) 0 ∷ getD bytes (i + 7) 0 ∷ []) ≡ numberAt i bytes
 unfolding numberAt
 read-8 bytes i h = rw (add-zero i) at (simp getD-drop at (ap numberOf (first-8 (drop i bytes) (omega (arith, length-drop i bytes)))))
 
@@ -58,19 +60,22 @@ module _ (stride : ℕ) where
 
   -- one place more
   pub column-suc : (offset n : ℕ) (bytes : List ℕ) (i : ℕ) (x : Float) → i < n → n ≤ 64 → x ≡ doubleAt (i * stride + offset) bytes
-      → set (over (take i (columnOf stride offset n bytes)) (replicate 64 zero64)) i x ≡ over (take (suc i) (columnOf stride offset n bytes)) (replicate 64 zero64)
+      → set (over (take i (columnOf stride offset n bytes)) (replicate 64 zero64)) i x
+      ≡ over (take (suc i) (columnOf stride offset n bytes)) (replicate 64 zero64)
   column-suc offset n bytes i x g h e =
       let l = column-length offset n bytes in
       ap (λ (y : Float). set (over (take i (columnOf stride offset n bytes)) (replicate 64 zero64)) i y) (e ∙ sym (column-at offset n bytes i nan g))
       ∙ over-suc (columnOf stride offset n bytes) (replicate 64 zero64) i nan (omega arith) (omega arith)
 
-  pub column-all : (offset n : ℕ) (bytes : List ℕ) (i : ℕ) → n ≤ i → over (take i (columnOf stride offset n bytes)) (replicate 64 zero64) ≡ over (columnOf stride offset n bytes) (replicate 64 zero64)
+  pub column-all : (offset n : ℕ) (bytes : List ℕ) (i : ℕ) → n ≤ i
+      → over (take i (columnOf stride offset n bytes)) (replicate 64 zero64) ≡ over (columnOf stride offset n bytes) (replicate 64 zero64)
   column-all offset n bytes i h =
       let l = column-length offset n bytes in
       over-all (columnOf stride offset n bytes) (replicate 64 zero64) i (omega arith)
 
   -- the places in use
-  pub column-take : (offset n : ℕ) (bytes : List ℕ) → n ≤ 64 → take n (over (columnOf stride offset n bytes) (replicate 64 zero64)) ≡ columnOf stride offset n bytes
+  pub column-take :
+      (offset n : ℕ) (bytes : List ℕ) → n ≤ 64 → take n (over (columnOf stride offset n bytes) (replicate 64 zero64)) ≡ columnOf stride offset n bytes
   column-take offset n bytes h = over-take (columnOf stride offset n bytes) (replicate 64 zero64) n (column-length offset n bytes) (omega arith)
 
 -- ---- writing
@@ -117,7 +122,8 @@ grouped : (a b d e : List ℕ) → ((a ++ b) ++ d) ++ e ≡ a ++ b ++ d ++ e
 grouped a b d e = simp append-assoc
 
 -- four doubles, one by one
-pub put-4 : (a b d e : Float) (out0 out1 out2 out3 out4 : List ℕ) → out1 ≡ putAt 0 (doubleBytes a) out0 → out2 ≡ putAt 8 (doubleBytes b) out1 → out3 ≡ putAt 16 (doubleBytes d) out2 → out4 ≡ putAt 24 (doubleBytes e) out3
+pub put-4 : (a b d e : Float) (out0 out1 out2 out3 out4 : List ℕ) → out1 ≡ putAt 0 (doubleBytes a) out0 → out2 ≡ putAt 8 (doubleBytes b) out1
+    → out3 ≡ putAt 16 (doubleBytes d) out2 → out4 ≡ putAt 24 (doubleBytes e) out3
     → out4 ≡ putAt 0 (doubleBytes a ++ doubleBytes b ++ doubleBytes d ++ doubleBytes e) out0
 put-4 a b d e out0 out1 out2 out3 out4 h1 h2 h3 h4 =
     let x = doubleBytes a in
@@ -128,7 +134,10 @@ put-4 a b d e out0 out1 out2 out3 out4 h1 h2 h3 h4 =
     let l24 : length ((x ++ y) ++ z) ≡ 24 = omega (arith, length-append (x ++ y) z, double-length d) in
     let e2 : out2 ≡ putAt 0 (x ++ y) out0 = h2 ∙ ap (putAt 8 y) h1 ∙ put-after 8 x y out0 l8 in
     let e3 : out3 ≡ putAt 0 ((x ++ y) ++ z) out0 = h3 ∙ ap (putAt 16 z) e2 ∙ put-after 16 (x ++ y) z out0 l16 in
-    h4 ∙ ap (putAt 24 (doubleBytes e)) e3 ∙ put-after 24 ((x ++ y) ++ z) (doubleBytes e) out0 l24 ∙ ap (λ (l : List ℕ). putAt 0 l out0) (grouped x y z (doubleBytes e))
+    h4
+    ∙ ap (putAt 24 (doubleBytes e)) e3
+    ∙ put-after 24 ((x ++ y) ++ z) (doubleBytes e) out0 l24
+    ∙ ap (λ (l : List ℕ). putAt 0 l out0) (grouped x y z (doubleBytes e))
 
 -- ---- the outcomes, by the tests
 
@@ -148,7 +157,8 @@ unfolding sumOf
 sum-by q p n observations replies ranges drops sigmas predicted e1 e2 e3 e4 = rw (e1, e2, e3, e4)
 
 module _ (q : TruingPriorsV1) (p : Point) (observations replies out : List ℕ) where
-  pub sum-1 : (not (eqb (length observations % 24) 0) || ltb 64 (length observations / 24)) ≡ true → sumOutcome q p observations replies out ≡ record { code = 1; out = out }
+  pub sum-1 : (not (eqb (length observations % 24) 0) || ltb 64 (length observations / 24)) ≡ true
+      → sumOutcome q p observations replies out ≡ record { code = 1; out = out }
   unfolding sumOutcome
   sum-1 h = rw h
 
@@ -162,13 +172,19 @@ module _ (q : TruingPriorsV1) (p : Point) (observations replies out : List ℕ) 
       unfolding sumOutcome
       sum-3 h = rw (whole, eq-eqb (length replies) (8 * (length observations / 24)) many, lt-ltb (length out) 8 h)
 
-      pub sum-0 : (after : List ℕ) → 8 ≤ length out → after ≡ putAt 0 (doubleBytes (sumOf q p (length observations / 24) observations replies)) out → sumOutcome q p observations replies out ≡ record { code = 0; out = after }
+      pub sum-0 : (after : List ℕ) → 8 ≤ length out → after ≡ putAt 0 (doubleBytes (sumOf q p (length observations / 24) observations replies)) out
+          → sumOutcome q p observations replies out ≡ record { code = 0; out = after }
       unfolding sumOutcome
-      sum-0 after h e = rw (whole, eq-eqb (length replies) (8 * (length observations / 24)) many, le-ltb (length out) 8 h) (ap (λ (l : List ℕ). record { code = 0; out = l }) (sym e))
+      sum-0 after h e =
+          rw (whole, eq-eqb (length replies) (8 * (length observations / 24)) many, le-ltb (length out) 8 h)
+          (ap (λ (l : List ℕ). record { code = 0; out = l }) (sym e))
 
     -- the records that are there
     pub sum-room : (length observations / 24 ≤ 64) × (length observations / 24 * 24 ≤ length observations)
-    sum-room = (ltb-false 64 (length observations / 24) (or-right (not (eqb (length observations % 24) 0)) (ltb 64 (length observations / 24)) whole), div-mul-le-self (length observations) 24)
+    sum-room = (
+      ltb-false 64 (length observations / 24) (or-right (not (eqb (length observations % 24) 0)) (ltb 64 (length observations / 24)) whole),
+      div-mul-le-self (length observations) 24,
+    )
 
 module _ (s : Symmetric2) (out : List ℕ) where
   pub inverse-short : length out < 32 → inverseOutcome s out ≡ record { code = 3; out = out }

@@ -1,6 +1,6 @@
 -- Each step of a fit over plain values: what is left of the run after it. The functions' proofs cite these.
 use Prim.Native.Nat.{ℕ, zero, suc, _-_, _≤_, _<_}
-use mathlib.Core.Path.{_≡_, refl, sym, ap, _∙_, fun-ext, subst}
+use mathlib.Core.Path.{_≡_, refl, sym, ap, _∙_, fun-ext}
 use mathlib.Core.List.{List}
 use mathlib.Core.Bool.{Bool, true, false, cond}
 use native.Mathlib.Omega.{arith}
@@ -12,7 +12,6 @@ use Rattle.definition.specs.Run.{Run, done, refuse, ask, bind, Reply}
 use Rattle.definition.specs.Likelihood as likelihood
 use Rattle.definition.specs.Mesh as mesh
 use Rattle.definition.specs.Fit as fit
-use Rattle.definition.specs.Summary.{Finished}
 use Rattle.definition.specs.Whole as whole
 use Rattle.definition.proofs.Polls.{evaluationsOf, turn-same}
 use Rattle.definition.specs.declared.Point.{Point}
@@ -24,7 +23,7 @@ use Rattle.criteria.specs.Criteria.{materialOf}
 use Rattle.objective_mesh.specs.Meaning.{passOf, pollOf, seenWithin}
 use Rattle.objective_mesh.specs.declared.Pass.{Pass}
 use Rattle.objective_mesh.specs.declared.Poll.{Poll}
-use Rattle.fitting.specs.Meaning.{iterationsOf, leftOf, fitOf, onward, trialsLeft, afterTrials, afterPoll, afterRows, afterTrial, afterLook, restOf, Moves, AfterRows, foundAt, flatAt, iterationAt, candidateAt, polledAt, pollAt, startAt}
+use Rattle.fitting.specs.Meaning.{iterationsOf, leftOf, onward, trialsLeft, afterTrials, afterPoll, afterRows, afterTrial, afterLook, restOf, foundAt, flatAt, iterationAt, candidateAt, polledAt, pollAt}
 use Rattle.fitting.specs.declared.Progress.{Progress}
 use Rattle.fitting.specs.declared.Stage.the-variants as Stage
 use Rattle.fitting.specs.declared.Wait.the-variants as Wait
@@ -182,12 +181,6 @@ poll-looks g c s m ds h e =
     ∙ ap (λ (n : ℕ). bind (likelihood.objective m c) (λ v. bind (mesh.poll m (1023 - n) (mesh.seen c v (passOf s))) (afterPoll m ds g))) same
     ∙ sym (bind-assoc (likelihood.objective m c) (λ v. mesh.poll m (1023 - g .pass .evaluations) (mesh.seen c v (passOf s))) (afterPoll m ds g))
     ∙ turn-by g m ds (mesh.evaluates c (passOf s)) h e
-
--- a pass that is looked at has evaluations left
-pub looks-within : (s t : Pass) (c : Point) → t .evaluations < 1024 → mesh.evaluates c (passOf s) ≡ mesh.turn (passOf t) → s .evaluations < 1024
-looks-within s t c h e =
-    let same : s .evaluations ≡ t .evaluations = ap evaluationsOf e ∙ turn-same (passOf t) in
-    omega arith
 
 -- ---- what follows an evaluation
 

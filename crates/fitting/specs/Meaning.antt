@@ -1,12 +1,12 @@
 -- What the numbers of a fit stand for: what is left of the run, for every request.
-use Prim.Native.Nat.{ℕ, zero, suc, _-_, _≤_, _<_}
+use Prim.Native.Nat.{ℕ, _-_}
 use mathlib.Core.Path.{_≡_}
 use mathlib.Core.List.{List}
 use lib.Ieee.{Float}
 use Rattle.numeric.specs.Numeric.{zero64}
 use Rattle.matrix.specs.declared.Symmetric2.{Symmetric2}
 use Rattle.definition.specs.Request.{Requested, Measured}
-use Rattle.definition.specs.Run.{Run, done, bind}
+use Rattle.definition.specs.Run.{Run, bind}
 use Rattle.definition.specs.Likelihood as likelihood
 use Rattle.definition.specs.Constants.{firstDamping}
 use Rattle.definition.specs.Mesh as mesh
@@ -74,26 +74,18 @@ module _ (m : Measured) (ds : List Requested) (g : Progress) where
   restOf (Wait.Trial q) = bind (likelihood.objective m q) (afterTrial q)
   restOf (Wait.Look c) = bind (likelihood.objective m c) (afterLook c)
 
--- the numbers are within a fit's limits: at most 100 iterations, and a look before the 1,024 evaluations are used up
-abbrev pub withinWait : Progress → Wait → Type 0
-withinWait g (Wait.Evaluation stage) = g .left ≤ 100
-withinWait g (Wait.Trial q) = g .left ≤ 100
-withinWait g (Wait.Look c) = (g .left ≤ 100) × (g .pass .evaluations < 1024)
-
 abbrev pub Continuation : Type 0
 Continuation = Measured → List Requested → Run Finished
 
--- The answer to a step from this many iterations left stands for this rest of the run, whatever was requested; from within the limits it stays within them.
+-- The answer to a step stands for this rest of the run, whatever was requested.
 -- What of its numbers the rest does not read is free: a pass outside a poll, an evaluation and a count of trials outside the damping trials, a verification before the fit has ended.
-pub record Moves (left : ℕ) (r : Moved) (t : Continuation) : Type 0 where
+pub record Moves (r : Moved) (t : Continuation) : Type 0 where
   pub leads : (m : Measured) (ds : List Requested) → restOf m ds (r .progress) (r .wait) ≡ t m ds
-  pub within : left ≤ 100 → withinWait (r .progress) (r .wait)
 
 -- the same of what follows rows that come to this evaluation
 pub record AfterRows (g : Progress) (r : Moved) (stage : Stage) (e : Evaluation) : Type 0 where
   pub leads : (m : Measured) (ds : List Requested) (rows : likelihood.Rows) → likelihood.evaluationOf m (g .point) rows ≡ e
       → restOf m ds (r .progress) (r .wait) ≡ afterRows m ds g stage rows
-  pub within : g .left ≤ 100 → withinWait (r .progress) (r .wait)
 
 abbrev pub foundAt : Progress → Continuation
 foundAt g m ds = whole.fitted m ds (fitOf g)

@@ -57,7 +57,7 @@ pub struct Moved {
 
 // The fit has ended: the evaluation at it comes next.
 fn found(g: Progress) -> Moved
-    ensures { λ r. ⌜ Moves (g .left) r (foundAt g) ⌝ }
+    ensures { λ r. ⌜ Moves r (foundAt g) ⌝ }
 {
     Moved {
         progress: g,
@@ -67,7 +67,7 @@ fn found(g: Progress) -> Moved
 
 // The fit has ended by its gradient.
 fn found_flat(g: Progress) -> Moved
-    ensures { λ r. ⌜ Moves (g .left) r (flatAt g) ⌝ }
+    ensures { λ r. ⌜ Moves r (flatAt g) ⌝ }
 {
     found(Progress {
         convergence: Convergence::ScaledGradient,
@@ -88,7 +88,7 @@ fn iterations_left(g: Progress) -> usize
 
 // The next iteration, or, with none left, the final evaluation.
 fn next_iteration(g: Progress) -> Moved
-    ensures { λ r. ⌜ Moves (g .left) r (iterationAt g) ⌝ }
+    ensures { λ r. ⌜ Moves r (iterationAt g) ⌝ }
 {
     if g.left == 0 {
         return Moved {
@@ -105,7 +105,7 @@ fn next_iteration(g: Progress) -> Moved
 
 // The next candidate of the iteration, or, with no trial left, the final evaluation.
 fn next_candidate(g: Progress) -> Moved
-    ensures { λ r. ⌜ Moves (g .left) r (candidateAt g) ⌝ }
+    ensures { λ r. ⌜ Moves r (candidateAt g) ⌝ }
 {
     let p = g.point;
     let e = g.evaluation;
@@ -128,7 +128,7 @@ fn next_candidate(g: Progress) -> Moved
 
 // The poll has ended.
 fn polled(g: Progress, r: Poll) -> Moved
-    ensures { λ s. ⌜ Moves (g .left) s (polledAt g r) ⌝ }
+    ensures { λ s. ⌜ Moves s (polledAt g r) ⌝ }
 {
     let point = r.point;
     let convergence = r.convergence;
@@ -142,7 +142,7 @@ fn polled(g: Progress, r: Poll) -> Moved
 
 // The next candidate of the poll, or its end.
 fn next_look(g: Progress) -> Moved
-    ensures { λ r. ⌜ Moves (g .left) r (pollAt g) ⌝ }
+    ensures { λ r. ⌜ Moves r (pollAt g) ⌝ }
 {
     let pass = g.pass;
     if pass.evaluations >= objective_mesh::MAP_OBJECTIVE_MAX_POLL_EVALUATIONS {
@@ -194,7 +194,7 @@ pub fn blank(entered: Point) -> Progress
 
 // The objective at the entered point is there.
 pub fn start(entered: Point, value: f64) -> Moved
-    ensures { λ r. ⌜ Moves 100 r (startAt entered value) ⌝ }
+    ensures { λ r. ⌜ Moves r (startAt entered value) ⌝ }
 {
     let g = blank(entered);
     next_iteration(Progress {
@@ -244,7 +244,7 @@ pub fn after_mesh(g: Progress, e: Evaluation) -> Moved
 
 // The objective at a candidate of the damping trials is there.
 pub fn after_trial(g: Progress, q: Point, value: f64) -> Moved
-    ensures { λ r. ⌜ Moves (g .left) r (λ m ds. afterTrial m ds g q value) ⌝ }
+    ensures { λ r. ⌜ Moves r (λ m ds. afterTrial m ds g q value) ⌝ }
 {
     if criteria::objective_improvement_is_material(g.current, value) {
         let damping = map_fit::lowered(g.damping);
@@ -261,7 +261,7 @@ pub fn after_trial(g: Progress, q: Point, value: f64) -> Moved
 
 // The objective at a candidate of the poll is there.
 pub fn after_look(g: Progress, c: Point, value: f64) -> Moved
-    ensures { λ r. ⌜ Moves (g .left) r (λ m ds. afterLook m ds g c value) ⌝ }
+    ensures { λ r. ⌜ Moves r (λ m ds. afterLook m ds g c value) ⌝ }
 {
     let before = g.pass;
     let pass = objective_mesh::seen(c, value, before);

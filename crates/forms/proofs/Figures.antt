@@ -5,7 +5,8 @@ use mathlib.Core.Option.{none, some}
 use lib.Ieee.{Float, nan, binary64, ofBits}
 use Rattle.forms.specs.Numbers.{digitOf, glyphOf, doubleOf, countOf, countText}
 use Rattle.words.specs.Words.{bytes}
-use Rattle.forms.specs.Lines.{malformed, entered, priorCoefficient, distance, openPlain, drops, missing, given, refused, exchange, enteredOf, priorOf, distanceOf, exchangeOf, takeOutOf, formOf}
+use Rattle.forms.specs.Lines.{malformed, entered, priorCoefficient, distance, openPlain, drops, missing, given, refused, exchange, enteredOf, priorOf}
+use Rattle.forms.specs.Lines.{distanceOf, exchangeOf, takeOutOf, formOf}
 
 abbrev one : Float
 one = ofBits binary64 0x3ff0_0000_0000_0000

@@ -1,5 +1,5 @@
--- A line that is cut into words and read word by word comes to the form that the whole line is, its entries up to 65: the theorem `line-form`. And a word of more than 22
--- bytes spoils a line wherever it stands, so that any other may stand in for it: `long-spoils`, `long-same`. Assumes nothing.
+-- A line that is cut into words and read word by word comes to the form that the whole line is, its entries up to 65: the theorem `line-form`. And a word
+-- of more than 22 bytes spoils a line wherever it stands, so that any other may stand in for it: `long-spoils`, `long-same`. Assumes nothing.
 use Prim.Native.Nat.{ℕ, _-_, _<_}
 use mathlib.Core.Path.{_≡_, refl, sym, ap, _∙_, subst}
 use mathlib.Core.Bool.{Bool, true, false, cond}
@@ -12,7 +12,7 @@ use lib.ListN.{length, take, getD}
 use lib.Seq.{length-take-le}
 use Rattle.forms.specs.declared.Line.{Line}
 use Rattle.forms.specs.Lines.{malformed, putFirst, wordsOf, afterOpen, onFront, beforeClose, ofInner, formOf}
-use Rattle.forms.specs.Reading.{startOf, spoiledOf, feedOf, formIn, feedIf, endOf, endIf, takeOf, readRest, readAll, short}
+use Rattle.forms.specs.Reading.{startOf, spoiledOf, feedOf, formIn, feedIf, endOf, endIf, takeOf, readRest, readAll, short, LineForm}
 use Rattle.forms.proofs.Steps.{close-place, feed-long}
 use Rattle.forms.proofs.Track.{feedAll, unsound-form, feed-unsound, words-form}
 
@@ -209,8 +209,7 @@ no-line : malformed ≡ short (formOf [])
 unfolding formOf
 no-line = refl
 
--- For every line, cutting it into words and reading these one by one gives the form that the line is, of a reply the first 65 entries.
-pub line-form : (s : List ℕ) → formIn (readAll (wordsOf s)) ≡ short (formOf s)
+pub line-form : LineForm
 line-form [] = unsound-form (readAll ([] ∷ [])) (all-unopened [] [] refl) ∙ no-line
 line-form (c ∷ t) = by (eqb c 40) refl where
   by : (v : Bool) → eqb c 40 ≡ v → formIn (readAll (wordsOf (c ∷ t))) ≡ short (formOf (c ∷ t))

@@ -10,9 +10,10 @@ use borrow.Author.Tests.{ltb-true}
 use lib.Dec.{ltb}
 use lib.ListN.{length}
 use Rattle.words.specs.Words.{bytes, is}
-use Rattle.words.specs.Rule.{same-length}
+use Rattle.words.proofs.Rule.{same-length}
 use Rattle.forms.specs.Numbers.{doubleOf, countOf}
-use Rattle.forms.specs.Lines.{Entry, Form, malformed, ifRead, sigmaOf, entryOf, inFront, entriesOf, enteredOf, shotOf, priorOf, distanceOf, putInOf, exchangeOf, takeOutOf, dropsOf, with0, with1, with2, with3, formOfWords}
+use Rattle.forms.specs.Lines.{Entry, Form, malformed, ifRead, sigmaOf, entryOf, inFront, entriesOf, enteredOf, shotOf, priorOf, distanceOf, putInOf}
+use Rattle.forms.specs.Lines.{exchangeOf, takeOutOf, dropsOf, with0, with1, with2, with3, formOfWords}
 use Rattle.forms.proofs.Numbers.{no-double, long-count}
 
 abbrev pub long : List ℕ → Bool
@@ -118,7 +119,9 @@ later-bad w ws e =
     (bad-3 _ ws (λ a b c t. rw (long-double a t)) (λ a b c t. rw (long-double b t) (if-bad (doubleOf a) _ (λ x. refl)))
     (λ a b c t. rw (long-double c t) (if-bad (doubleOf a) _ (λ x. if-bad (doubleOf b) _ (λ y. refl)))) e)
     (by-first (is "prior" w)
-    (bad-3 _ ws (λ a b c t. rw (long-other a t "speed" (omega arith), long-other a t "coefficient" (omega arith)) (if-bad (doubleOf b) _ (λ x. if-bad (doubleOf c) _ (λ y. refl))))
+    (bad-3 _ ws
+    (λ a b c t. rw (long-other a t "speed" (omega arith), long-other a t "coefficient" (omega arith))
+    (if-bad (doubleOf b) _ (λ x. if-bad (doubleOf c) _ (λ y. refl))))
     (λ a b c t. rw (long-double b t)) (λ a b c t. rw (long-double c t) (if-bad (doubleOf b) _ (λ x. refl))) e)
     (by-first (is "distance" w) (bad-2 _ ws (λ a b t. rw (long-double a t)) (λ a b t. rw (long-sigma b t) (if-bad (doubleOf a) _ (λ x. refl))) e)
     (by-first (is "open" w) (bad-1 _ ws (λ a t. rw (long-other a t "plain" (omega arith))) e)

@@ -4,7 +4,8 @@ use mathlib.Core.Path.{_≡_, refl, sym, ap, _∙_}
 use mathlib.Core.Bool.{Bool, true, false, not, _&&_, cond, true≢false}
 use mathlib.Core.List.{List, [], _∷_, _++_, append-assoc, append-nil}
 use mathlib.Core.Option.{Option, none, some}
-use native.Mathlib.Nat.{mul-suc, mul-one, mul-comm, mul-assoc, mul-le-mul-right, pow-le-pow-right, pow-succ', le-mul-of-pos-right, div-lt-iff-lt-mul, le-div-iff-mul-le, div-add-mod, mod-lt, pow-zero, pow-suc}
+use native.Mathlib.Nat.{mul-suc, mul-one, mul-comm, mul-assoc, mul-le-mul-right, pow-le-pow-right, pow-succ', le-mul-of-pos-right, div-lt-iff-lt-mul}
+use native.Mathlib.Nat.{le-div-iff-mul-le, div-add-mod, mod-lt, pow-zero, pow-suc}
 use native.Mathlib.Omega.{arith}
 use borrow.Author.Tests.{lt-ltb, le-ltb, le-leb, lt-leb, eq-eqb, ne-eqb, ltb-true, ltb-false, leb-true, leb-false, eqb-false}
 use lib.Dec.{T, leb, ltb, eqb}
@@ -12,7 +13,8 @@ use lib.ListN.{length, take, drop, getD, set, replicate, length-append, drop-of-
 use lib.Seq.{drop-cons, set-split, drop-at, length-take-le}
 use lib.Ieee.{Float, nan, inf, fin, binary64, ne, div, isNan, fits, ofBits, toBits}
 use lib.Ieee.Bits.{ofBits-toBits, toBits-lt, ofBits-fits}
-use Rattle.forms.specs.Numbers.{digitOf, glyphOf, numberFrom, digitsOf, ofPattern, doubleOf, doubleText, within64, plain, countOf, placesOf, countText, in20}
+use Rattle.forms.specs.Numbers.{digitOf, glyphOf, numberFrom, digitsOf, ofPattern, doubleOf, doubleText, within64, plain, countOf, placesOf}
+use Rattle.forms.specs.Numbers.{countText, in20, DoubleBack, PatternBack, CountBack}
 
 pub both-l : (a b : Bool) → (a && b) ≡ true → a ≡ true
 both-l true b e = refl
@@ -135,7 +137,8 @@ onward-cond b t false o p e = refl
 number-append : (b m : ℕ) (s t : List ℕ) → numberFrom b m (s ++ t) ≡ onward b t (numberFrom b m s)
 number-append b m [] t = refl
 number-append b m (c ∷ s) t =
-    onward-cond b t (ltb (digitOf c) b) (numberFrom b (b * m + digitOf c) (s ++ t)) (numberFrom b (b * m + digitOf c) s) (number-append b (b * m + digitOf c) s t)
+    onward-cond b t (ltb (digitOf c) b) (numberFrom b (b * m + digitOf c) (s ++ t)) (numberFrom b (b * m + digitOf c) s)
+    (number-append b (b * m + digitOf c) s t)
 
 pub number-digits : (b k n : ℕ) → 0 < b → b ≤ 16 → n < b ^ k → numberFrom b 0 (digitsOf b k n) ≡ some n
 number-digits b zero n p q h = let z : 0 ≡ n = omega (arith, rw pow-zero at h) in ap some z
@@ -166,14 +169,13 @@ pub text-length : (n : ℕ) → placesOf 19 n ≡ length (countText n)
 unfolding countText
 text-length n = sym (digits-length 10 (placesOf 19 n) n)
 
--- a double reads back as what was written
-pub double-back : (x : Float) → T (fits binary64 x) → doubleOf (doubleText x) ≡ some x
+pub double-back : DoubleBack
 unfolding doubleOf doubleText
 double-back x h =
-    rw (digits-length 16 16 (toBits binary64 x), number-digits 16 16 (toBits binary64 x) (omega arith) (omega arith) (toBits-lt binary64 x h)) (ap some (ofBits-toBits binary64 x h))
+    rw (digits-length 16 16 (toBits binary64 x), number-digits 16 16 (toBits binary64 x) (omega arith) (omega arith) (toBits-lt binary64 x h))
+    (ap some (ofBits-toBits binary64 x h))
 
--- so does the double of any pattern
-pub pattern-back : (b : ℕ) → doubleOf (doubleText (ofBits binary64 b)) ≡ some (ofBits binary64 b)
+pub pattern-back : PatternBack
 pattern-back b = double-back (ofBits binary64 b) (ofBits-fits binary64 b)
 
 -- the first byte is there and is no 0
@@ -222,8 +224,7 @@ wide zero n h = h
 wide (suc k) n h =
     wide-at k n (ltb n 10) refl (wide k (n / 10) (div-lt-iff-lt-mul {k = 10} {x = n} {y = 10 ^ suc k} (omega arith) .1 (rw pow-suc at h)))
 
--- a count reads back as what was written
-pub count-back : (n : ℕ) → n < 2 ^ 64 → countOf (countText n) ≡ some n
+pub count-back : CountBack
 unfolding countOf countText
 count-back n h =
     let g : n < 10 ^ 20 = omega arith in
@@ -231,10 +232,12 @@ count-back n h =
 
 -- ---- how large a number is
 
-below-at : (b m d l : ℕ) (v : Bool) (n : ℕ) (o : Option ℕ) → ltb d b ≡ v → (o ≡ some n → n < suc (b * m + d) * b ^ l) → cond v o none ≡ some n → n < suc m * b ^ suc l
+below-at : (b m d l : ℕ) (v : Bool) (n : ℕ) (o : Option ℕ) → ltb d b ≡ v → (o ≡ some n → n < suc (b * m + d) * b ^ l) → cond v o none ≡ some n
+    → n < suc m * b ^ suc l
 below-at b m d l true n o e ih h =
     let q : suc (b * m + d) * b ^ l ≤ (b * suc m) * b ^ l = mul-le-mul-right (b ^ l) (omega (arith, ltb-true d b e, mul-suc b m)) in
-    let r : (b * suc m) * b ^ l ≡ suc m * b ^ suc l = ap (λ (x : ℕ). x * b ^ l) (mul-comm b (suc m)) ∙ mul-assoc (suc m) b (b ^ l) ∙ ap (λ (x : ℕ). suc m * x) (sym (pow-succ' b l)) in
+    let r : (b * suc m) * b ^ l ≡ suc m * b ^ suc l =
+    ap (λ (x : ℕ). x * b ^ l) (mul-comm b (suc m)) ∙ mul-assoc (suc m) b (b ^ l) ∙ ap (λ (x : ℕ). suc m * x) (sym (pow-succ' b l)) in
     omega (arith, ih h)
 below-at b m d l false n o e ih h = let z : _≡_ {A = ℕ} 0 1 = cc in absurd (omega arith)
 

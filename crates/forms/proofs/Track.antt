@@ -13,7 +13,7 @@ use lib.ListN.{length, take, getD, set, length-append, length-set}
 use lib.Seq.{take-all, take-suc-set, take-append-le, length-take-le}
 use lib.Ieee.{Float, binary64, ofBits}
 use Rattle.words.specs.Words.{is, words, placeOf, place}
-use Rattle.words.specs.Rule.{named}
+use Rattle.words.proofs.Rule.{named}
 use Rattle.forms.specs.declared.Reading.{Reading}
 use Rattle.forms.specs.declared.Fields.{Fields}
 use Rattle.forms.specs.declared.Reply.{Reply}
@@ -50,7 +50,9 @@ use Rattle.forms.specs.Lines.{
   with3,
   formOfWords,
 }
-use Rattle.forms.specs.Reading.{entryAt, zipEntries, entriesIn, asDouble, asCount, readingOf, blank, startOf, withFieldOf, pushOf, withEntryOf, feedOf, doubleIn, countIn, sigmaIn, enteredIn, shotIn, priorIn, distanceIn, openIn, putInIn, exchangeIn, takeOutIn, dropsIn, aloneIn, namedIn, formIn, short}
+use Rattle.forms.specs.Reading.{entryAt, zipEntries, entriesIn, asDouble, asCount, readingOf, blank, startOf, withFieldOf, pushOf, withEntryOf}
+use Rattle.forms.specs.Reading.{feedOf, doubleIn, countIn, sigmaIn, enteredIn, shotIn, priorIn, distanceIn, openIn, putInIn, exchangeIn, takeOutIn}
+use Rattle.forms.specs.Reading.{dropsIn, aloneIn, namedIn, formIn, short}
 use Rattle.forms.proofs.Steps.{field-0, field-1, field-2, field-3, field-4, push-full, push-room, feed-long, feed-first, feed-next}
 use Rattle.forms.proofs.Long.{long, anyLong, all-0, all-1, all-2, all-3, if-all, words-bad}
 
@@ -75,7 +77,8 @@ push-kept r es x m h k =
     let n = r .n in
     let a : n < length (r .drops) = omega (arith, k .wide, k .count) in
     let b : n < length (r .missing) = omega (arith, k .flags, k .count) in
-    let same : length (take n (r .drops)) ≡ length (take n (r .missing)) = length-take-le n (r .drops) (omega arith) ∙ sym (length-take-le n (r .missing) (omega arith)) in
+    let same : length (take n (r .drops)) ≡ length (take n (r .missing)) =
+    length-take-le n (r .drops) (omega arith) ∙ sym (length-take-le n (r .missing) (omega arith)) in
     subst (λ (q : Reply). Kept q (es ++ entryAt x m ∷ [])) (push-room r x m (omega (arith, k .count)))
     (record {
       wide = length-set (r .drops) n x ∙ k .wide;
@@ -95,7 +98,9 @@ push-sound : (r : Reply) (x : Float) (m : Bool) → pushOf r x m .sound ≡ r .s
 unfolding pushOf
 push-sound r x m = by (leb 65 (r .n)) where
   by : (v : Bool)
-      → _≡_ {A = Bool} (cond {A = Reply} v r (record { drops = set (r .drops) (r .n) x; missing = set (r .missing) (r .n) m; n = r .n + 1; sound = r .sound }) .sound) (r .sound)
+      → _≡_ {A = Bool}
+      (cond {A = Reply} v r (record { drops = set (r .drops) (r .n) x; missing = set (r .missing) (r .n) m; n = r .n + 1; sound = r .sound }) .sound)
+      (r .sound)
   by true = refl
   by false = refl
 
@@ -105,7 +110,8 @@ push-holds r es x m k = (push-sound r x m ∙ k .0, by (ltb (length es) 65) refl
   by true e =
       let h = ltb-true (length es) 65 e in
       let here : take 65 es ≡ es = take-all 65 es (omega arith) in
-      let there : take 65 (es ++ entryAt x m ∷ []) ≡ es ++ entryAt x m ∷ [] = take-all 65 (es ++ entryAt x m ∷ []) (omega (arith, length-append es (entryAt x m ∷ []))) in
+      let there : take 65 (es ++ entryAt x m ∷ []) ≡ es ++ entryAt x m ∷ [] =
+      take-all 65 (es ++ entryAt x m ∷ []) (omega (arith, length-append es (entryAt x m ∷ []))) in
       subst (Kept (pushOf r x m)) (sym there) (push-kept r es x m h (subst (Kept r) here (k .1)))
   by false e =
       let h = ltb-false (length es) 65 e in
@@ -419,7 +425,8 @@ all-unsound l (w ∷ ws) e = all-unsound (feedOf l w) ws (feed-unsound l w e)
 long-unsound : (l : Line) (ws : List (List ℕ)) → anyLong ws ≡ true → feedAll l ws .sound ≡ false
 long-unsound l [] e = absurd (true≢false (sym e))
 long-unsound l (w ∷ ws) e = by (long w) refl e (long-unsound (feedOf l w) ws) where
-  by : (v : Bool) → long w ≡ v → (v || anyLong ws) ≡ true → (anyLong ws ≡ true → feedAll (feedOf l w) ws .sound ≡ false) → feedAll (feedOf l w) ws .sound ≡ false
+  by : (v : Bool) → long w ≡ v → (v || anyLong ws) ≡ true → (anyLong ws ≡ true → feedAll (feedOf l w) ws .sound ≡ false)
+      → feedAll (feedOf l w) ws .sound ≡ false
   by true f g later = all-unsound (feedOf l w) ws (sym (ap (λ (x : Line). x .sound) (feed-long l w (ltb-true 20 (length w) f))))
   by false f g later = later g
 

@@ -1,11 +1,12 @@
 -- Numbers as they stand in a line: a double is the 16 hexadecimal digits of its bits, a count is decimal. A text is the list of its bytes.
-use Prim.Native.Nat.{ℕ, zero, suc, _+_, _-_, _*_, _/_, _%_, _^_}
+use Prim.Native.Nat.{ℕ, zero, suc, _+_, _-_, _*_, _/_, _%_, _^_, _<_}
+use mathlib.Core.Path.{_≡_}
 use mathlib.Core.Bool.{Bool, true, false, not, _&&_, cond}
 use mathlib.Core.List.{List, [], _∷_, _++_}
 use mathlib.Core.Option.{Option, none, some}
-use lib.Dec.{leb, ltb, eqb}
+use lib.Dec.{T, leb, ltb, eqb}
 use lib.ListN.{length, replicate}
-use lib.Ieee.{Float, binary64, ofBits, toBits}
+use lib.Ieee.{Float, binary64, fits, ofBits, toBits}
 use Rattle.forms.specs.declared.ReadDouble.{ReadDouble}
 use Rattle.forms.specs.declared.ReadDouble.the-variants as readDouble
 use Rattle.forms.specs.declared.ReadCount.{ReadCount}
@@ -85,3 +86,17 @@ in20 s = s ++ replicate (20 - length s) 0
 abbrev pub saysCount : ReadCount → Option ℕ
 saysCount readCount.Malformed = none
 saysCount (readCount.Count n) = some n
+
+-- ---- what is written reads back
+
+-- a double. Theorem `double-back`.
+abbrev pub DoubleBack : Type 0
+DoubleBack = (x : Float) → T (fits binary64 x) → doubleOf (doubleText x) ≡ some x
+
+-- the double of any pattern. Theorem `pattern-back`.
+abbrev pub PatternBack : Type 0
+PatternBack = (b : ℕ) → doubleOf (doubleText (ofBits binary64 b)) ≡ some (ofBits binary64 b)
+
+-- a count. Theorem `count-back`.
+abbrev pub CountBack : Type 0
+CountBack = (n : ℕ) → n < 2 ^ 64 → countOf (countText n) ≡ some n

@@ -1,6 +1,7 @@
 -- How the code reads a line word by word, in the code's own terms, one definition for each function: a fixed word is its place in the table of words.
--- What it comes to is `formOf`: the theorem `line-form` of proofs/Lines.antt.
+-- What it comes to is `formOf`: `LineForm`, at the end.
 use Prim.Native.Nat.{ℕ, _+_}
+use mathlib.Core.Path.{_≡_}
 use mathlib.Core.Bool.{Bool, true, false, cond}
 use mathlib.Core.List.{List, [], _∷_}
 use mathlib.Core.Option.{Option, none, some}
@@ -25,7 +26,7 @@ use Rattle.forms.specs.declared.Fields.{Fields}
 use Rattle.forms.specs.declared.Reply.{Reply}
 use Rattle.forms.specs.declared.Line.{Line}
 use Rattle.forms.specs.Numbers.{doubleOf, countOf, saysDouble, saysCount}
-use Rattle.forms.specs.Lines.{Entry, missing, given, Form, malformed, entered, shot, priorSpeed, priorCoefficient, distance, openPlain, drops, refused, putIn, takeOut, exchange, asked, sigmaFrom, entryFrom, enteredOf, shotOf, priorOf, distanceOf, openOf, putInOf, exchangeOf, takeOutOf, afterOpen, beforeClose}
+use Rattle.forms.specs.Lines.{Entry, missing, given, Form, malformed, entered, shot, priorSpeed, priorCoefficient, distance, openPlain, drops, refused, putIn, takeOut, exchange, asked, sigmaFrom, entryFrom, enteredOf, shotOf, priorOf, distanceOf, openOf, putInOf, exchangeOf, takeOutOf, afterOpen, beforeClose, wordsOf, formOf}
 
 -- ---- what the code's values say
 
@@ -279,3 +280,7 @@ abbrev pub readAll : List (List ℕ) → Line
 readAll [] = startOf
 readAll (w ∷ []) = takeOf startOf w true true
 readAll (w ∷ v ∷ ws) = readRest (takeOf startOf w true false) (v ∷ ws)
+
+-- For every line, cutting it into words and reading these one by one gives the form that the line is, of a reply the first 65 entries. Theorem `line-form`.
+abbrev pub LineForm : Type 0
+LineForm = (s : List ℕ) → formIn (readAll (wordsOf s)) ≡ short (formOf s)

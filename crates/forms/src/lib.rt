@@ -391,7 +391,7 @@ fn with_entry(r: Reply, w: Reading) -> Reply
 }
 
 // One word more, without parentheses.
-pub fn feed(l: Line, word: &[u8]) -> Line
+fn feed(l: Line, word: &[u8]) -> Line
     ensures { λ r. ⌜ r ≡ feedOf l (now (word .entry)) ⌝ }
 {
     if word.len() > 20 {

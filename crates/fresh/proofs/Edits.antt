@@ -14,7 +14,8 @@ use Rattle.definition.specs.Run.{done, bind, new, require}
 use Rattle.definition.specs.Host.{ends, refuses, play}
 use Rattle.definition.specs.Likelihood.{Rows, truingJacobianRows}
 use Rattle.definition.specs.Summary.{Finished}
-use Rattle.definition.specs.Whole.{soundRequestedOf, faultyRequested, noRows, Edit, putIn, takeOut, exchange, edited, placed, editedRows, renewed, unlessMissing, asked, edit}
+use Rattle.definition.specs.Whole.{soundRequestedOf, faultyRequested, noRows, Edit, putIn, takeOut, exchange, edited, placed, editedRows, renewed}
+use Rattle.definition.specs.Whole.{unlessMissing, asked, edit}
 use Rattle.definition.specs.declared.Point.{Point}
 use Rattle.fresh.specs.Solver.{Solver, distancesOf, hostOf, withList, fresh, EditFresh, TakeOutFresh, ListKept}
 use Rattle.fresh.proofs.Lists.{insert-hit, insert-miss, set-hit, set-miss, remove-miss, map-insert, map-set, map-remove, insert-length, remove-shorter}
@@ -49,7 +50,8 @@ record Asks (σ : Solver) (p : Point) (e : Edit) (place : ℕ) (d : Requested) (
   pub rows : editedRows e (rowsOver σ p (d .range ∷ [])) (rowsWith σ p (distancesOf l) 0) ≡ rowsWith σ p (distancesOf k) 0
 
 asks : (σ : Solver) (o : Opening) (l : List Requested) (c : Finished) (w : Came σ o l c) (e : Edit) (place : ℕ) (d : Requested) (k : List Requested) (j : ℕ)
-    → Asks σ (w .fit .point) e place d l k j → play (hostOf σ (withList o l)) (bind (require (soundRequestedOf d) 7 place) (λ u. asked c e place d)) ≡ fresh σ o k
+    → Asks σ (w .fit .point) e place d l k j
+    → play (hostOf σ (withList o l)) (bind (require (soundRequestedOf d) 7 place) (λ u. asked c e place d)) ≡ fresh σ o k
 unfolding asked
 asks σ o l c w e place d k j a = by-test (soundRequestedOf d) refl
   where
@@ -81,7 +83,8 @@ asks σ o l c w e place d k j a = by-test (soundRequestedOf d) refl
     by-test : (t : Bool) → soundRequestedOf d ≡ t → play (hostOf σ (withList o l)) (bind (require t 7 place) (λ u. asked c e place d)) ≡ fresh σ o k
     by-test true t =
         ap (λ (x : Finished). play (hostOf σ (withList o l)) (asked x e place d)) (w .is)
-        ∙ play-then (hostOf σ (withList o l)) (truingJacobianRows (w .fit .point) (new (d .range))) (λ one. bind (unlessMissing (one .gap) place) (λ u. done (renewed before e one))) one
+        ∙ play-then (hostOf σ (withList o l)) (truingJacobianRows (w .fit .point) (new (d .range)))
+        (λ one. bind (unlessMissing (one .gap) place) (λ u. done (renewed before e one))) one
         (five σ (hostOf σ (withList o l)) (new (d .range)) (d .range ∷ []) (λ q. refl) (w .fit .point) (w .served))
         ∙ by-row (lacks σ (w .fit .point) (d .range)) refl (a .sound t)
     by-test false t = ap (refuses 7) (a .at) ∙ sym (again-faulty σ o l c w k j (a .room) (a .faulty t))
@@ -141,7 +144,8 @@ list-kept σ o l c e =
     (ap (λ (x : Finished). x .requested) (w .is), ap (λ (x : Finished). x .measured) (w .is))
 
 module _ (σ : Solver) (o : Opening) (l : List Requested) (c : Finished) (w : Came σ o l c) where
-  put-fresh : (i : ℕ) (d : Requested) → placed (putIn i d) (length l) ≡ true → play (hostOf σ (withList o l)) (edit c (putIn i d)) ≡ fresh σ o (insertAt (i - 1) d l)
+  put-fresh : (i : ℕ) (d : Requested) → placed (putIn i d) (length l) ≡ true
+      → play (hostOf σ (withList o l)) (edit c (putIn i d)) ≡ fresh σ o (insertAt (i - 1) d l)
   unfolding edit
   put-fresh i d p = by-room (ltb (length (c .requested)) 64) refl
     where
@@ -152,7 +156,8 @@ module _ (σ : Solver) (o : Opening) (l : List Requested) (c : Finished) (w : Ca
       inside = and-true (leb 1 i) (leb i (length l + 1)) p
 
       by-room : (t : Bool) → ltb (length (c .requested)) 64 ≡ t
-          → play (hostOf σ (withList o l)) (bind (require t 6 0) (λ u. bind (require (soundRequestedOf d) 7 i) (λ v. asked c (putIn i d) i d))) ≡ fresh σ o (insertAt (i - 1) d l)
+          → play (hostOf σ (withList o l)) (bind (require t 6 0) (λ u. bind (require (soundRequestedOf d) 7 i) (λ v. asked c (putIn i d) i d)))
+          ≡ fresh σ o (insertAt (i - 1) d l)
       by-room true t =
           asks σ o l c w (putIn i d) i d (insertAt (i - 1) d l) (i - 1)
           (put-asks σ (w .fit .point) i d l (w .sound) (w .whole) (leb-true 1 i (inside .0)) (leb-true i (length l + 1) (inside .1))
@@ -161,12 +166,14 @@ module _ (σ : Solver) (o : Opening) (l : List Requested) (c : Finished) (w : Ca
           sym (again-long σ o l c w (insertAt (i - 1) d l)
           (lt-leb (length (insertAt (i - 1) d l)) 64 (omega (arith, insert-length d l (i - 1), ltb-false (length (c .requested)) 64 t, same))))
 
-  exchange-fresh : (i : ℕ) (d : Requested) → placed (exchange i d) (length l) ≡ true → play (hostOf σ (withList o l)) (edit c (exchange i d)) ≡ fresh σ o (set l (i - 1) d)
+  exchange-fresh : (i : ℕ) (d : Requested) → placed (exchange i d) (length l) ≡ true
+      → play (hostOf σ (withList o l)) (edit c (exchange i d)) ≡ fresh σ o (set l (i - 1) d)
   unfolding edit
   exchange-fresh i d p =
       let inside = and-true (leb 1 i) (leb i (length l)) p in
       asks σ o l c w (exchange i d) i d (set l (i - 1) d) (i - 1)
-      (exchange-asks σ (w .fit .point) i d l (w .sound) (w .whole) (leb-true 1 i (inside .0)) (leb-true i (length l) (inside .1)) (leb-true (length l) 64 (w .room)))
+      (exchange-asks σ (w .fit .point) i d l (w .sound) (w .whole) (leb-true 1 i (inside .0)) (leb-true i (length l) (inside .1))
+      (leb-true (length l) 64 (w .room)))
 
   taken : (i : ℕ) → fresh σ o (removeAt (i - 1) l) ≡ ends (renewed c (takeOut i) noRows)
   taken i =
@@ -181,10 +188,13 @@ module _ (σ : Solver) (o : Opening) (l : List Requested) (c : Finished) (w : Ca
         evaluation = after .evaluation;
         predicted = after .predicted;
         requested = k;
-        bandRows = record { predicted = over-remove (dropAt σ q) l j t; byMv = over-remove (mvSlopeAt σ q) l j t; byBc = over-remove (bcSlopeAt σ q) l j t; gap = 0 };
+        bandRows =
+            record
+            { predicted = over-remove (dropAt σ q) l j t; byMv = over-remove (mvSlopeAt σ q) l j t; byBc = over-remove (bcSlopeAt σ q) l j t; gap = 0 };
         baseline = after .baseline;
       } in
-      again σ o l c w k (le-leb (length k) 64 (omega (arith, remove-shorter l j, leb-true (length l) 64 (w .room)))) (remove-miss faultyRequested l j (w .sound))
+      again σ o l c w k (le-leb (length k) 64 (omega (arith, remove-shorter l j, leb-true (length l) 64 (w .room))))
+      (remove-miss faultyRequested l j (w .sound))
       ∙ ap (λ (n : ℕ). closing n after) whole
       ∙ ap (λ (x : Finished). ends x) same
       ∙ ap (λ (x : Finished). ends (renewed x (takeOut i) noRows)) (sym (w .is))

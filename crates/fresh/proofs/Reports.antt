@@ -11,7 +11,8 @@ use Rattle.definition.specs.Lists.{any, insertAt, removeAt, zipWith}
 use Rattle.definition.specs.Request.{Requested, Measured, Opening}
 use Rattle.definition.specs.Likelihood.{Rows, rowOf, rowsOf, evaluationOf}
 use Rattle.definition.specs.Fit.{Fit}
-use Rattle.definition.specs.Summary.{converged, Approximation, approximationOf, Diagnostics, Band, bandOf, isOutside, dominatedOf, crossesBoundsOf, isMesh, whereAvailable, isUnavailable, atMostOne, warn, warningsOf, Finished, reportOf}
+use Rattle.definition.specs.Summary.{converged, Approximation, approximationOf, Diagnostics, Band, bandOf, isOutside, dominatedOf, crossesBoundsOf, isMesh}
+use Rattle.definition.specs.Summary.{whereAvailable, isUnavailable, atMostOne, warn, warningsOf, Finished, reportOf}
 use Rattle.definition.specs.Whole.{Edit, putIn, takeOut, exchange, edited}
 use Rattle.definition.specs.declared.Point.{Point}
 use Rattle.definition.specs.declared.Row.{Row}
@@ -89,7 +90,8 @@ nine m f e a d =
     ∷ tested (whereAvailable (λ g. dominatedOf (m .priors .«muzzle_velocity_fps») (g .covariance .«mv_variance_fps2»)) a) Warning.MvPriorDominated
     ∷ tested (whereAvailable (λ g. dominatedOf (m .priors .«ballistic_coefficient») (g .covariance .«bc_variance»)) a) Warning.BcPriorDominated
     ∷ tested (isUnavailable a) Warning.GaussianApproximationUnavailable
-    ∷ tested (whereAvailable (λ g. crossesBoundsOf (g .«muzzle_velocity_interval_95») (g .«ballistic_coefficient_interval_95»)) a) Warning.IntervalCrossesFitBounds
+    ∷ tested (whereAvailable (λ g. crossesBoundsOf (g .«muzzle_velocity_interval_95») (g .«ballistic_coefficient_interval_95»)) a)
+    Warning.IntervalCrossesFitBounds
     ∷ tested (atMostOne (d .effectiveDegreesOfFreedom)) Warning.LowEffectiveDegreesOfFreedom
     ∷ []
 
@@ -117,11 +119,14 @@ alone σ o l f rows e =
       baseline = refl;
       diagnostics = refl;
       approximation = refl;
-      bands = bands-edited σ (approximationOf (converged (f .convergence)) (f .point) (evaluationOf (o .measured) (f .point) rows .«posterior_information»)) (f .point) l e;
+      bands =
+          bands-edited σ (approximationOf (converged (f .convergence)) (f .point) (evaluationOf (o .measured) (f .point) rows .«posterior_information»))
+          (f .point) l e;
       warnings = warnings-same (o .measured) f (evaluationOf (o .measured) (f .point) rows) _ _ l (edited e l);
     }
 
 pub only-band : OnlyBand
 only-band σ o l c d e w p v =
     let x = came σ o l c w in
-    subst₂ (λ (a b : Finished). BandAlone e (reportOf a) (reportOf b)) (sym (x .is)) (sym (again-ends σ o l c x (edited e l) d v)) (alone σ o l (x .fit) (x .rows) e)
+    subst₂ (λ (a b : Finished). BandAlone e (reportOf a) (reportOf b)) (sym (x .is)) (sym (again-ends σ o l c x (edited e l) d v))
+    (alone σ o l (x .fit) (x .rows) e)

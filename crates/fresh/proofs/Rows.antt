@@ -1,5 +1,5 @@
--- The five questions under a solver. Where it refuses none of the five points, the rows are maps over the distances, and the gap is at the first distance where one
--- of the five is missing. Assumes nothing.
+-- The five questions under a solver. Where it refuses none of the five points, the rows are maps over the distances, and the gap is at the first distance
+-- where one of the five is missing. Assumes nothing.
 use Prim.Native.Nat.{ℕ}
 use mathlib.Core.Path.{_≡_, refl, sym, ap, ap₂, _∙_}
 use mathlib.Core.Bool.{Bool, true, false, cond, _||_}
@@ -9,7 +9,8 @@ use lib.Ieee.{Float}
 use Rattle.definition.specs.Lists.{firstOf, firstAt}
 use Rattle.definition.specs.Run.{Run, done, refuse, ask, bind, Reply, refused, entries, Which, Reading, readingOf, isMissing, dropOr0, answered, read}
 use Rattle.definition.specs.Host.{Outcome, ends, refuses, Host, play}
-use Rattle.definition.specs.Likelihood.{Rows, mvStepOf, bcStepOf, slope, slopes, mvPlusAt, mvMinusAt, bcPlusAt, bcMinusAt, bcMinus, bcPlus, mvMinus, mvPlus, truingJacobianRows}
+use Rattle.definition.specs.Likelihood.{Rows, mvStepOf, bcStepOf, slope, slopes, mvPlusAt, mvMinusAt, bcPlusAt, bcMinusAt, bcMinus, bcPlus, mvMinus, mvPlus}
+use Rattle.definition.specs.Likelihood.{truingJacobianRows}
 use Rattle.definition.specs.declared.Point.{Point}
 use Rattle.fresh.specs.Solver.{Solver, replyAt}
 use Rattle.fresh.proofs.Lists.{map-map, zip-maps, first-map, first-either}
@@ -71,7 +72,8 @@ module _ (σ : Solver) where
     read-play : (p : Point) (f : Reading → Run A) → σ .refuses p ≡ false → play h (bind (read p w) f) ≡ play h (f (readingAt p ds))
     read-play p f e = ap (λ (r : Reply). play h (bind (answered r) f)) (replies p ∙ ap (λ (b : Bool). cond b refused (entries (map (σ .drops p) ds))) e)
 
-    read-passed : (a : A) (p : Point) (f : Reading → Run A) → play h (bind (read p w) f) ≡ ends a → (σ .refuses p ≡ false) × (play h (f (readingAt p ds)) ≡ ends a)
+    read-passed :
+        (a : A) (p : Point) (f : Reading → Run A) → play h (bind (read p w) f) ≡ ends a → (σ .refuses p ≡ false) × (play h (f (readingAt p ds)) ≡ ends a)
     read-passed a p f e = go (σ .refuses p) refl (sym (ap (λ (r : Reply). play h (bind (answered r) f)) (replies p)) ∙ e)
       where
         go : (b : Bool) → σ .refuses p ≡ b → play h (bind (answered (cond b refused (entries (map (σ .drops p) ds)))) f) ≡ ends a
@@ -87,7 +89,8 @@ module _ (σ : Solver) where
     byMv = slopes (mvStepOf (p .mv)) (readingAt (mvPlusAt p) ds .drops) (readingAt (mvMinusAt p) ds .drops);
     byBc = slopes (bcStepOf (p .bc)) (readingAt (bcPlusAt p) ds .drops) (readingAt (bcMinusAt p) ds .drops);
     gap = firstOf (firstOf (firstOf (firstOf
-        (readingAt p ds .gap) (readingAt (mvPlusAt p) ds .gap)) (readingAt (mvMinusAt p) ds .gap)) (readingAt (bcPlusAt p) ds .gap)) (readingAt (bcMinusAt p) ds .gap);
+        (readingAt p ds .gap) (readingAt (mvPlusAt p) ds .gap)) (readingAt (mvMinusAt p) ds .gap)) (readingAt (bcPlusAt
+        p) ds .gap)) (readingAt (bcMinusAt p) ds .gap);
   }
 
   slopes-over : (step : Float) (p q : Point) (ds : List Float)
@@ -96,7 +99,8 @@ module _ (σ : Solver) where
       ap₂ (λ (a b : List Float). slopes step a b) (map-map dropOr0 (σ .drops p) ds) (map-map dropOr0 (σ .drops q) ds)
       ∙ zip-maps (slope step) (dropAt p) (dropAt q) ds
 
-  gap-over : (t : Float → Bool) (n : ℕ) (p : Point) (ds : List Float) → n ≡ firstAt t ds → firstOf n (readingAt p ds .gap) ≡ firstAt (λ d. t d || lacking p d) ds
+  gap-over :
+      (t : Float → Bool) (n : ℕ) (p : Point) (ds : List Float) → n ≡ firstAt t ds → firstOf n (readingAt p ds .gap) ≡ firstAt (λ d. t d || lacking p d) ds
   gap-over t n p ds e = ap₂ firstOf e (first-map (σ .drops p) isMissing ds) ∙ first-either t (lacking p) ds
 
   rows-over : (p : Point) (ds : List Float) → rowsRead p ds ≡ rowsOver p ds
@@ -104,7 +108,9 @@ module _ (σ : Solver) where
     predicted = map-map dropOr0 (σ .drops p) ds i;
     byMv = slopes-over (mvStepOf (p .mv)) (mvPlusAt p) (mvMinusAt p) ds i;
     byBc = slopes-over (bcStepOf (p .bc)) (bcPlusAt p) (bcMinusAt p) ds i;
-    gap = gap-over _ _ (bcMinusAt p) ds (gap-over _ _ (bcPlusAt p) ds (gap-over _ _ (mvMinusAt p) ds (gap-over _ _ (mvPlusAt p) ds (first-map (σ .drops p) isMissing ds)))) i;
+    gap =
+        gap-over _ _ (bcMinusAt p) ds
+        (gap-over _ _ (bcPlusAt p) ds (gap-over _ _ (mvMinusAt p) ds (gap-over _ _ (mvPlusAt p) ds (first-map (σ .drops p) isMissing ds)))) i;
   }
 
   module _ (h : Host) (w : Which) (ds : List Float) (replies : (p : Point) → h p w ≡ replyAt σ p ds) where

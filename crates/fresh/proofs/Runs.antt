@@ -64,7 +64,8 @@ module _ (σ : Solver) (o : Opening) where
   by-gap l f rows (suc k) = refl
 
   banded-play : (l : List Requested) (f : Fit) (rows : Rows) → Served σ (f .point)
-      → play (with l) (banded (o .measured) l f (evaluationOf (o .measured) (f .point) rows) (rows .predicted)) ≡ closing (gapAt σ (f .point) l) (finishedAt σ o l f rows)
+      → play (with l) (banded (o .measured) l f (evaluationOf (o .measured) (f .point) rows) (rows .predicted))
+      ≡ closing (gapAt σ (f .point) l) (finishedAt σ o l f rows)
   unfolding banded bandRows concluded baseline complete
   banded-play [] f rows s = refl
   banded-play (d ∷ l) f rows s =
@@ -119,7 +120,9 @@ module _ (σ : Solver) (o : Opening) where
       let a = then-ends _ _ c (sym (play-bind h (checkedMeasured m) (λ u. bind (checkedRequested l) (λ v. run m l))) ∙ e) in
       let b = checked-ends h l (run m l) c (a .2) in
       let f = then-ends _ _ c (sym (play-bind h (fitMap m) (fitted m l)) ∙ b .2) in
-      let r = then-ends _ _ c (sym (play-bind h (evaluate (f .0 .point)) (λ rows. banded m l (f .0) (evaluationOf m (f .0 .point) rows) (rows .predicted))) ∙ f .2) in
+      let r =
+      then-ends _ _ c (sym (play-bind h (evaluate (f .0 .point)) (λ rows. banded m l (f .0) (evaluationOf m (f .0 .point) rows) (rows .predicted))) ∙ f .2)
+      in
       let s = evaluate-served l (f .0 .point) (r .0) (r .1) in
       let z = closing-ends _ _ c (sym (banded-play l (f .0) (r .0) s) ∙ r .2) in
       record { checked = a .1; room = b .0; sound = b .1; fit = f .0; fits = f .1; rows = r .0; evaluated = r .1; served = s; whole = z .0; is = z .1 }
@@ -135,7 +138,8 @@ module _ (σ : Solver) (o : Opening) where
     unfolding fresh whole
     entered = play-then (with k) (checkedMeasured (o .measured)) _ tt (moved (asks-measured (o .measured)) (w .checked))
 
-    pub again : leb (length k) 64 ≡ true → firstAt faultyRequested k ≡ 0 → fresh σ o k ≡ closing (gapAt σ (w .fit .point) k) (finishedAt σ o k (w .fit) (w .rows))
+    pub again :
+        leb (length k) 64 ≡ true → firstAt faultyRequested k ≡ 0 → fresh σ o k ≡ closing (gapAt σ (w .fit .point) k) (finishedAt σ o k (w .fit) (w .rows))
     unfolding run fitted checkedRequested
     again room sound =
         let m = o .measured in

@@ -15,7 +15,8 @@ ghost use Rattle.definition.specs.Lists.{firstOf, firstAt, zipWith3};
 ghost use Rattle.definition.specs.Run.{isMissing, dropOr0};
 ghost use Rattle.definition.specs.Likelihood.{chiSquareOf, withPriorOf, withPriorsOf, mvStepOf, bcStepOf, mvPlusAt, mvMinusAt, bcPlusAt, bcMinusAt, slope, slopes, rowOf, accumulateOf, sumsOf, priorInformationOf, withPriorGradientOf, sensitivityRatioOf, finishedOf};
 ghost use Rattle.definition.specs.Meaning.{observationsOf};
-ghost use Rattle.likelihood.specs.Arrays.{shortestOf, entryOf, entriesOf, over};
+ghost use Rattle.definition.specs.Session.{entryOf, entriesOf};
+ghost use Rattle.likelihood.specs.Arrays.{shortestOf, over};
 
 // The steps of the five questions: this part of the coordinate, and no less than these.
 const STEP_FRACTION: f64 = 1.0e-3;
@@ -29,7 +30,8 @@ const MV_COORDINATE_SCALE_FPS: f64 = 100.0;
 
 const BC_COORDINATE_SCALE: f64 = 0.1;
 
-fn shorter(a: usize, b: usize) -> usize
+// The less of two lengths.
+pub fn shorter(a: usize, b: usize) -> usize
     ensures { λ r. ⌜ r ≡ min a b ⌝ }
 {
     if a < b {
@@ -128,7 +130,7 @@ pub fn chi_square<'a>(
 }
 
 // A sum with the prior's squared standardized distance added, where there is a prior.
-pub fn with_prior(prior: Prior, x: f64, sum: f64) -> f64
+fn with_prior(prior: Prior, x: f64, sum: f64) -> f64
     ensures { λ r. ⌜ r ≡ withPriorOf prior x sum ⌝ }
 {
     match prior {
@@ -141,7 +143,7 @@ pub fn with_prior(prior: Prior, x: f64, sum: f64) -> f64
 }
 
 // The speed's prior is added first.
-pub fn with_priors(priors: TruingPriorsV1, p: Point, sum: f64) -> f64
+fn with_priors(priors: TruingPriorsV1, p: Point, sum: f64) -> f64
     ensures { λ r. ⌜ r ≡ withPriorsOf priors p sum ⌝ }
 {
     let mv_prior = priors.muzzle_velocity_fps;
@@ -214,7 +216,7 @@ pub fn bc_minus(p: Point) -> Point
 }
 
 // 0 in place of a missing drop.
-pub fn drop_or_0(drop: f64, missing: bool) -> f64
+fn drop_or_0(drop: f64, missing: bool) -> f64
     ensures { λ r. ⌜ r ≡ dropOr0 (entryOf drop missing) ⌝ }
 {
     if missing {
@@ -224,14 +226,14 @@ pub fn drop_or_0(drop: f64, missing: bool) -> f64
 }
 
 // (plus - minus) / (2 * step)
-pub fn slope_of(step: f64, plus: f64, minus: f64) -> f64
+fn slope_of(step: f64, plus: f64, minus: f64) -> f64
     ensures { λ r. ⌜ r ≡ slope step plus minus ⌝ }
 {
     (plus - minus) / (2.0 * step)
 }
 
 // A reply's drops go over the first places of the slice.
-fn lay_drops(out: &mut [f64], drops: &[f64], missing: &[bool])
+pub fn lay_drops(out: &mut [f64], drops: &[f64], missing: &[bool])
     ensures { λ _. ⌜ now (out .exit) ≡ over (map dropOr0 (entriesOf (now (drops .entry)) (now (missing .entry)))) (now (out .entry)) ⌝ }
 {
     let n = shortest(out.len(), drops.len(), missing.len());
@@ -243,7 +245,7 @@ fn lay_drops(out: &mut [f64], drops: &[f64], missing: &[bool])
 }
 
 // The slice holds the drops at the plus point; with the reply at the minus point, the slopes go over its first places.
-fn lay_slopes(out: &mut [f64], step: f64, drops: &[f64], missing: &[bool])
+pub fn lay_slopes(out: &mut [f64], step: f64, drops: &[f64], missing: &[bool])
     ensures { λ _. ⌜ now (out .exit) ≡ over (slopes step (now (out .entry)) (map dropOr0 (entriesOf (now (drops .entry)) (now (missing .entry))))) (now (out .entry)) ⌝ }
 {
     let n = shortest(out.len(), drops.len(), missing.len());
@@ -255,24 +257,10 @@ fn lay_slopes(out: &mut [f64], step: f64, drops: &[f64], missing: &[bool])
     }
 }
 
-// A reply's drops go over the first places of the array.
-pub fn read_drops(out: &mut [f64; 64], drops: &[f64], missing: &[bool])
-    ensures { λ _. ⌜ now (out .exit) ≡ over (map dropOr0 (entriesOf (now (drops .entry)) (now (missing .entry)))) (now (out .entry)) ⌝ }
-{
-    lay_drops(out, drops, missing);
-}
-
-// The array holds the drops at the plus point; with the reply at the minus point, the slopes go over its first places.
-pub fn read_slopes(out: &mut [f64; 64], step: f64, drops: &[f64], missing: &[bool])
-    ensures { λ _. ⌜ now (out .exit) ≡ over (slopes step (now (out .entry)) (map dropOr0 (entriesOf (now (drops .entry)) (now (missing .entry))))) (now (out .entry)) ⌝ }
-{
-    lay_slopes(out, step, drops, missing);
-}
-
 // ---- the evaluation
 
 // One observation more: the two scaled columns, and the fractional sensitivities at the point.
-pub fn accumulate(p: Point, sums: Sums, measured: f64, sigma: f64, row: Row) -> Sums
+fn accumulate(p: Point, sums: Sums, measured: f64, sigma: f64, row: Row) -> Sums
     ensures { λ r. ⌜ r ≡ accumulateOf p sums measured sigma row ⌝ }
 {
     let standardized = (row.predicted_drop - measured) / sigma;
@@ -293,7 +281,7 @@ pub fn accumulate(p: Point, sums: Sums, measured: f64, sigma: f64, row: Row) -> 
 }
 
 // All observations, each beside its row.
-pub fn sum_rows<'a>(
+fn sum_rows<'a>(
     p: Point,
     ranges: &'a [f64],
     drops: &'a [f64],
@@ -331,7 +319,7 @@ pub fn sum_rows<'a>(
 }
 
 // What a prior adds to a diagonal entry of the information.
-pub fn prior_information(prior: Prior, scale: f64) -> f64
+fn prior_information(prior: Prior, scale: f64) -> f64
     ensures { λ r. ⌜ r ≡ priorInformationOf prior scale ⌝ }
 {
     match prior {
@@ -344,7 +332,7 @@ pub fn prior_information(prior: Prior, scale: f64) -> f64
 }
 
 // An entry of the gradient with what the prior adds to it.
-pub fn with_prior_gradient(prior: Prior, scale: f64, x: f64, gradient: f64) -> f64
+fn with_prior_gradient(prior: Prior, scale: f64, x: f64, gradient: f64) -> f64
     ensures { λ r. ⌜ r ≡ withPriorGradientOf prior scale x gradient ⌝ }
 {
     match prior {
@@ -358,7 +346,7 @@ pub fn with_prior_gradient(prior: Prior, scale: f64, x: f64, gradient: f64) -> f
 }
 
 // The fractional sensitivity of the coefficient over that of the speed, 0 where that of the speed is not above 0.
-pub fn sensitivity_ratio(fractional_mv: f64, fractional_bc: f64) -> f64
+fn sensitivity_ratio(fractional_mv: f64, fractional_bc: f64) -> f64
     ensures { λ r. ⌜ r ≡ sensitivityRatioOf «fractional_mv» «fractional_bc» ⌝ }
 {
     if 0.0 < fractional_mv {
@@ -368,7 +356,7 @@ pub fn sensitivity_ratio(fractional_mv: f64, fractional_bc: f64) -> f64
 }
 
 // The sums with the priors.
-pub fn finished(priors: TruingPriorsV1, p: Point, sums: Sums) -> Evaluation
+fn finished(priors: TruingPriorsV1, p: Point, sums: Sums) -> Evaluation
     ensures { λ r. ⌜ r ≡ finishedOf priors p sums ⌝ }
 {
     let mv_prior = priors.muzzle_velocity_fps;

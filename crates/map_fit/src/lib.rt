@@ -34,27 +34,21 @@ pub enum NextTrial {
 }
 
 // A diagonal entry with its damping.
-pub fn damped(damping: f64, a: f64) -> f64
+fn damped(damping: f64, a: f64) -> f64
     ensures { λ r. ⌜ r ≡ fit.dampedOf damping a ⌝ }
 {
     a + damping * numeric::max(a, LEAST_DIAGONAL)
 }
 
 // Not finite, or too small.
-pub fn is_unfit(determinant: f64) -> bool
+fn is_unfit(determinant: f64) -> bool
     ensures { λ r. ⌜ r ≡ fit.unfitOf determinant ⌝ }
 {
     !numeric::is_finite(determinant) | (numeric::abs(determinant) < LEAST_DETERMINANT)
 }
 
 // The step that solves the damped equations, as a point of the fit.
-pub fn stepped(
-    p: Point,
-    d: Symmetric2,
-    determinant: f64,
-    gradient_mv: f64,
-    gradient_bc: f64,
-) -> Point
+fn stepped(p: Point, d: Symmetric2, determinant: f64, gradient_mv: f64, gradient_bc: f64) -> Point
     ensures { λ r. ⌜ r ≡ fit.steppedOf p d determinant «gradient_mv» «gradient_bc» ⌝ }
 {
     let mv = -(d.a11 * gradient_mv - d.a01 * gradient_bc) / determinant;
@@ -66,7 +60,7 @@ pub fn stepped(
 }
 
 // The step with the posterior information damped.
-pub fn damped_step(p: Point, e: Evaluation, damping: f64) -> Step
+fn damped_step(p: Point, e: Evaluation, damping: f64) -> Step
     ensures { λ r. ⌜ says r ≡ fit.stepOf p e damping ⌝ }
 {
     let information = e.posterior_information;
@@ -100,7 +94,7 @@ pub fn raised(damping: f64) -> f64
 }
 
 // The damping where the determinant is unfit.
-pub fn raised_far(damping: f64) -> f64
+fn raised_far(damping: f64) -> f64
     ensures { λ r. ⌜ r ≡ fit.raisedFar damping ⌝ }
 {
     damping * 10.0

@@ -11,7 +11,7 @@ use lib.Pow.{pow-pos}
 use lib.Ieee.{Float, nan, inf, fin, binary64, up, down, round, sub, neg, lt, eq, ne, isNan, fits, ofBits}
 use lib.Ieee.Fits.{up-pos, down-pos}
 use lib.Ieee.Scale.{round-same}
-use Rattle.numeric.specs.Laws.{not-below-itself}
+use Rattle.numeric.proofs.Order.{not-below-itself}
 use Rattle.numeric.specs.Numeric.{zero64, finite, absOf, maxOf, clampOf, hypotOf, scaledOf}
 
 never : _≡_ false true → ⊥

@@ -1,4 +1,3 @@
 pub mod Numeric
 pub mod Poll
 pub mod Drop
-pub mod Laws

@@ -1,6 +1,6 @@
 -- The poll's steps over plain values, as the functions' proofs cite them. Assumes nothing.
 use Prim.Native.Nat.{ℕ, zero, suc, _<_, _≤_, _+_}
-use mathlib.Core.Path.{_≡_, refl, sym, ap, _∙_}
+use mathlib.Core.Path.{_≡_, refl, sym, _∙_}
 use mathlib.Core.Bool.{Bool, true, false, not, cond}
 use mathlib.Core.List.{List}
 use native.Mathlib.Numerals.{add-one}
@@ -12,7 +12,7 @@ use Rattle.criteria.specs.Criteria.{materialOf}
 use Rattle.numeric.specs.declared.Direction.{Direction}
 use Rattle.definition.specs.Mesh as mesh
 use Rattle.definition.specs.declared.Point.{Point}
-use Rattle.objective_mesh.specs.Meaning.{lastDirection, looksAs, turnWithin, seenWithin}
+use Rattle.objective_mesh.specs.Meaning.{lastDirection, looksAs, seenWithin}
 use Rattle.objective_mesh.specs.declared.Looked.{Looked}
 use Rattle.objective_mesh.specs.declared.Looked.the-variants.{Moved, NoneMoved}
 use Rattle.objective_mesh.specs.Laws.{look-from}
@@ -89,17 +89,10 @@ module _ (s : mesh.Pass) {g : Bool} (e : g ≡ materialOf (s .current) (s .best)
   unfolding mesh.stopped
   stopped-last t z = simp (← e, t) (last s (s .smaller) z)
 
-  pub stopped-cut : g ≡ false → (s .smaller ≡ 0 → ⊥) → record { point = s .centre; convergence = mesh.notConverged; evaluations = s .evaluations } ≡ mesh.stopped s
+  pub stopped-cut :
+      g ≡ false → (s .smaller ≡ 0 → ⊥) → record { point = s .centre; convergence = mesh.notConverged; evaluations = s .evaluations } ≡ mesh.stopped s
   unfolding mesh.stopped
   stopped-cut t z = simp (← e, t) (cut s (s .smaller) z)
-
--- what comes next with the limit
-module _ (s : mesh.Pass) where
-  pub within : s .evaluations < 1024 → {w : mesh.Turn} → w ≡ mesh.turn s → w ≡ turnWithin s
-  within h e = rw (lt-ltb (s .evaluations) 1024 h) e
-
-  pub at-limit : 1024 ≤ s .evaluations → {r : mesh.Poll} → r ≡ mesh.stopped s → mesh.ended r ≡ turnWithin s
-  at-limit h e = rw (le-ltb (s .evaluations) 1024 h, e)
 
 -- what a look comes to, by the case of its answer
 module _ (axis : Direction) {f : Looked} {w : mesh.Looked} (e : looksAs axis f ≡ w) (none : mesh.Turn) (some : Point → List Point → mesh.Turn) where
@@ -120,15 +113,21 @@ module _ (axis : Direction) (radius : Float) (centre : Point) (current best : Fl
     unfolding mesh.ungained
     smaller-radius = simp (ek, er)
 
-    pub ungained-moved : {f : Looked} → looksAs axis f ≡ mesh.look r centre (mesh.directions axis) → {c : Point} {next : ℕ} {s : mesh.Pass} → f ≡ Moved c next → s ≡ mesh.passAt axis r l centre current n (drop next (mesh.directions axis)) → mesh.evaluates c s ≡ mesh.ungained axis radius k centre current best n
+    pub ungained-moved : {f : Looked} → looksAs axis f ≡ mesh.look r centre (mesh.directions axis) → {c : Point} {next : ℕ} {s : mesh.Pass} → f ≡ Moved c next
+        → s ≡ mesh.passAt axis r l centre current n (drop next (mesh.directions axis))
+        → mesh.evaluates c s ≡ mesh.ungained axis radius k centre current best n
     ungained-moved ef t es = rw es (looked-moved axis ef _ _ t ∙ smaller-radius)
 
-    pub ungained-none : {f : Looked} → looksAs axis f ≡ mesh.look r centre (mesh.directions axis) → f ≡ NoneMoved → mesh.ungained axis r l centre current current n ≡ mesh.ungained axis radius k centre current best n
+    pub ungained-none : {f : Looked} → looksAs axis f ≡ mesh.look r centre (mesh.directions axis) → f ≡ NoneMoved
+        → mesh.ungained axis r l centre current current n ≡ mesh.ungained axis radius k centre current best n
     ungained-none ef t = looked-none axis ef _ _ t ∙ smaller-radius
 
 -- a new pass
-module _ (axis : Direction) (radius : Float) (k : ℕ) (centre : Point) (current : Float) (n : ℕ) {f : Looked} (ef : looksAs axis f ≡ mesh.look radius centre (mesh.directions axis)) where
-  pub begin-moved : {c : Point} {next : ℕ} {s : mesh.Pass} → f ≡ Moved c next → s ≡ mesh.passAt axis radius k centre current n (drop next (mesh.directions axis)) → mesh.evaluates c s ≡ mesh.begin axis radius k centre current n
+module _ (axis : Direction) (radius : Float) (k : ℕ) (centre : Point) (current : Float) (n : ℕ) {f : Looked}
+    (ef : looksAs axis f ≡ mesh.look radius centre (mesh.directions axis)) where
+  pub begin-moved :
+      {c : Point} {next : ℕ} {s : mesh.Pass} → f ≡ Moved c next → s ≡ mesh.passAt axis radius k centre current n (drop next (mesh.directions axis))
+      → mesh.evaluates c s ≡ mesh.begin axis radius k centre current n
   unfolding mesh.begin
   begin-moved t es = rw es (looked-moved axis ef _ _ t)
 

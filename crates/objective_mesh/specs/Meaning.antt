@@ -1,5 +1,4 @@
 -- What the poll's structs and answers stand for in the definition: a direction not yet looked at is an index into the eight, and what remains is the list from there on.
-use Prim.Native.Nat.{ℕ}
 use mathlib.Core.Bool.{cond}
 use lib.Dec.{ltb}
 use lib.Ieee.{Float, neg}
@@ -43,10 +42,6 @@ looksAs axis NoneMoved = mesh.noneMoved
 abbrev pub says : Turn → mesh.Turn
 says (Evaluates c s) = mesh.evaluates c (passOf s)
 says (Ended r) = mesh.ended (pollOf r)
-
--- what comes next in the poll with its limit of 1,024 evaluations
-abbrev pub turnWithin : mesh.Pass → mesh.Turn
-turnWithin s = cond (ltb (s .evaluations) 1024) (mesh.turn s) (mesh.ended (mesh.stopped s))
 
 -- A pass with one evaluation more, up to the limit of 1,024; past the limit, where the poll has no evaluation, it stays as it is.
 abbrev pub seenWithin : Point → Float → mesh.Pass → mesh.Pass

@@ -6,7 +6,7 @@ use numeric::Direction;
 ghost use mathlib.Core.Path.{_≡_};
 ghost use lib.ListN.{drop, getD};
 ghost use Rattle.definition.specs.Mesh as mesh;
-ghost use Rattle.objective_mesh.specs.Meaning.{lastDirection, passOf, pollOf, looksAs, says, turnWithin, seenWithin};
+ghost use Rattle.objective_mesh.specs.Meaning.{lastDirection, passOf, pollOf, looksAs, says, seenWithin};
 
 // The scales of the two coordinates.
 const MV_COORDINATE_SCALE_FPS: f64 = 100.0;
@@ -68,7 +68,7 @@ pub fn bounded(mv: f64, bc: f64) -> Point
 }
 
 // The four coordinate directions, then the poll direction and its turns. Past the eighth it gives the eighth.
-pub fn direction_at(axis: Direction, j: usize) -> Point
+fn direction_at(axis: Direction, j: usize) -> Point
     ensures { λ r. ⌜ r ≡ getD (mesh.directions axis) j (lastDirection axis) ⌝ }
 {
     match j {
@@ -96,7 +96,7 @@ pub fn direction_at(axis: Direction, j: usize) -> Point
 }
 
 // The point at a radius from the centre in a direction, within the bounds of the fit.
-pub fn candidate(radius: f64, centre: Point, d: Point) -> Point
+fn candidate(radius: f64, centre: Point, d: Point) -> Point
     ensures { λ r. ⌜ r ≡ mesh.candidateOf radius centre d ⌝ }
 {
     bounded(
@@ -106,21 +106,21 @@ pub fn candidate(radius: f64, centre: Point, d: Point) -> Point
 }
 
 // Whether two points are equal; a not-a-number equals nothing.
-pub fn is_unmoved(p: Point, q: Point) -> bool
+fn is_unmoved(p: Point, q: Point) -> bool
     ensures { λ r. ⌜ r ≡ mesh.unmovedOf p q ⌝ }
 {
     (p.mv == q.mv) & (p.bc == q.bc)
 }
 
 // The radius after a pass without a material gain.
-pub fn quartered(radius: f64) -> f64
+fn quartered(radius: f64) -> f64
     ensures { λ r. ⌜ r ≡ mesh.quarteredOf radius ⌝ }
 {
     numeric::max(radius * 0.25, MAP_OBJECTIVE_MIN_POLL_RADIUS)
 }
 
 // Looks from the direction at `from` on; an unmoved candidate is skipped.
-pub fn look(radius: f64, centre: Point, axis: Direction, from: usize) -> Looked
+fn look(radius: f64, centre: Point, axis: Direction, from: usize) -> Looked
     ensures { λ r. ⌜ looksAs axis r ≡ mesh.look radius centre (drop from (mesh.directions axis)) ⌝ }
 {
     let mut j = from;
@@ -173,7 +173,7 @@ fn pass_at(
 }
 
 // After a pass without a material gain: the next radius at which a candidate moves, or the end.
-pub fn ungained(
+fn ungained(
     axis: Direction,
     radius: f64,
     smaller: usize,
@@ -202,7 +202,7 @@ pub fn ungained(
 }
 
 // A new pass. Where every candidate is unmoved the best is the current one, and nothing is gained.
-pub fn begin(
+fn begin(
     axis: Direction,
     radius: f64,
     smaller: usize,
@@ -223,7 +223,7 @@ pub fn begin(
 }
 
 // The pass has looked in all eight directions: a material gain moves the centre and keeps radius and directions.
-pub fn judged(s: Pass) -> Turn
+fn judged(s: Pass) -> Turn
     ensures { λ r. ⌜ says r ≡ mesh.judged (passOf s) ⌝ }
 {
     let axis = s.axis;
@@ -297,18 +297,6 @@ pub fn stopped(s: Pass) -> Poll
         convergence: Convergence::NotConverged,
         evaluations: s.evaluations,
     }
-}
-
-// What comes next in the poll with its limit of evaluations.
-pub fn poll_turn(s: Pass) -> Turn
-    ensures { λ r. ⌜ says r ≡ turnWithin (passOf s) ⌝ }
-{
-    let evaluations = s.evaluations;
-    if evaluations < MAP_OBJECTIVE_MAX_POLL_EVALUATIONS {
-        return next_turn(s);
-    }
-    let r = stopped(s);
-    Turn::Ended(r)
 }
 
 // The pass with which the poll begins; the information gives its directions.

@@ -10,7 +10,7 @@ use lib.Ieee.{Float}
 use lib.ListN.{length, take, getD, set, length-take}
 use Rattle.definition.specs.Lists.{insertAt, removeAt}
 use Rattle.likelihood.specs.Arrays.{over}
-use Rattle.likelihood.specs.Laws.{over-take}
+use Rattle.likelihood.proofs.Laws.{over-take}
 use Rattle.places.specs.Places.{insertedOf, removedOf}
 
 module _ {A : Type 0} where

@@ -9,7 +9,7 @@ use lib.Ieee.{Float}
 use Rattle.numeric.specs.declared.DropUnit.{DropUnit}
 use Rattle.definition.specs.Run.{entries}
 use Rattle.definition.specs.declared.Point.{Point}
-use Rattle.likelihood.specs.Arrays.{entriesOf}
+use Rattle.definition.specs.Session.{entriesOf}
 use Rattle.fresh.specs.Solver.{Solver, replyAt}
 use Rattle.point_mass.specs.Flight.{isSane, entryAt, Filled}
 

@@ -137,7 +137,7 @@ fn in_unit(unit: DropUnit, yards: f64, found: Entry) -> Entry
 }
 
 // The drop at a distance in yards; missing too at a point that is refused, and at a distance that is not above 0.
-pub fn drop_at(p: Point, unit: DropUnit, yards: f64) -> Entry
+fn drop_at(p: Point, unit: DropUnit, yards: f64) -> Entry
     ensures { λ r. ⌜ says r ≡ entryAt p unit yards ⌝ }
 {
     if is_sane(p) & (yards > 0.0) {

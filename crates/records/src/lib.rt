@@ -1,7 +1,6 @@
 // The objective's sum over a lent list of records, each read where it lies.
 ghost use mathlib.Core.Path.{_≡_};
 ghost use mathlib.Core.List.{map};
-ghost use Prim.Native.Nat.{min};
 ghost use Rattle.definition.specs.Likelihood.{withShot, chiSquareOf};
 ghost use Rattle.records.specs.Records.{observationIn};
 
@@ -10,15 +9,6 @@ pub struct WeightedTruingObservationV1 {
     pub range_yd: f64,
     pub drop: f64,
     pub sigma: f64,
-}
-
-fn shorter(a: usize, b: usize) -> usize
-    ensures { λ r. ⌜ r ≡ min a b ⌝ }
-{
-    if a < b {
-        return a;
-    }
-    b
 }
 
 // A sum with the squared standardized residual of one record added.
@@ -33,7 +23,7 @@ fn with_observation(sum: f64, observation: WeightedTruingObservationV1, predicte
 pub fn chi_square(observations: &[WeightedTruingObservationV1], predicted: &[f64]) -> f64
     ensures { λ r. ⌜ r ≡ chiSquareOf (map observationIn (now (observations .entry))) (now (predicted .entry)) ⌝ }
 {
-    let n = shorter(observations.len(), predicted.len());
+    let n = likelihood::shorter(observations.len(), predicted.len());
     let mut sum = 0.0;
     let mut i = 0usize;
     while i < n {

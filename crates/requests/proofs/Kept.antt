@@ -12,7 +12,7 @@ use Rattle.definition.specs.Lists.{zipWith3}
 use Rattle.definition.specs.Meaning.{observationsOf, observationOf}
 use Rattle.definition.specs.Request.{Observation, Requested, Opening}
 use Rattle.definition.specs.declared.TruingPriorsV1.{TruingPriorsV1}
-use Rattle.session.specs.Opening.{wantedAt, requestedFrom}
+use Rattle.opening.specs.Opening.{wantedAt, requestedFrom}
 use Rattle.requests.specs.Request.{withShot, withDistance, withPriors}
 use Rattle.requests.specs.Kept.{Shape, Keeps, openingIn, kept}
 use Rattle.requests.specs.declared.Request.{Request}
@@ -55,10 +55,12 @@ module _ {D : Type 0} where
 -- ---- the request
 
 -- openings by their parts
-opening-of : (r : Request) (o : Opening) → Keeps r o → observationsOf (take (r .n) (r .ranges)) (take (r .n) (r .drops)) (take (r .n) (r .sigmas)) ≡ take 65 (o .measured .observations)
+opening-of : (r : Request) (o : Opening) → Keeps r o
+    → observationsOf (take (r .n) (r .ranges)) (take (r .n) (r .drops)) (take (r .n) (r .sigmas)) ≡ take 65 (o .measured .observations)
 opening-of r o k = ap (λ (x : Opening). x .measured .observations) (k .same)
 
-requested-of : (r : Request) (o : Opening) → Keeps r o → requestedFrom (take (r .m) (r .distances)) (take (r .m) (r .future)) (take (r .m) (r .given)) ≡ take 65 (o .requested)
+requested-of : (r : Request) (o : Opening) → Keeps r o
+    → requestedFrom (take (r .m) (r .distances)) (take (r .m) (r .future)) (take (r .m) (r .given)) ≡ take 65 (o .requested)
 requested-of r o k = ap (λ (x : Opening). x .requested) (k .same)
 
 module _ (r : Request) (o : Opening) (k : Keeps r o) where
@@ -108,7 +110,9 @@ module _ (r : Request) (o : Opening) (k : Keeps r o) where
         same = λ i. record {
           measured = record {
             entered = k .same i .measured .entered;
-            observations = more observationOf (r .ranges) (r .drops) (r .sigmas) (r .n) (o .measured .observations) (s .ranges) (s .drops) (s .sigmas) (k .shots) h (opening-of r o k) range drop sigma i;
+            observations =
+                more observationOf (r .ranges) (r .drops) (r .sigmas) (r .n) (o .measured .observations) (s .ranges) (s .drops) (s .sigmas) (k .shots) h
+                (opening-of r o k) range drop sigma i;
             priors = k .same i .measured .priors;
           };
           requested = k .same i .requested;
@@ -156,7 +160,9 @@ module _ (r : Request) (o : Opening) (k : Keeps r o) where
         wanted = count-more (r .m) (o .requested) _ (k .wanted) h;
         same = λ i. record {
           measured = k .same i .measured;
-          requested = more wantedAt (r .distances) (r .future) (r .given) (r .m) (o .requested) (s .distances) (s .future) (s .given) (k .wanted) h (requested-of r o k) range sigma given i;
+          requested =
+              more wantedAt (r .distances) (r .future) (r .given) (r .m) (o .requested) (s .distances) (s .future) (s .given) (k .wanted) h
+              (requested-of r o k) range sigma given i;
         };
       }
 

@@ -15,7 +15,8 @@ use Rattle.definition.specs.Request.{Observation, Requested, Measured, Opening}
 use Rattle.definition.specs.Run.{Run, done, refuse, ask, bind, require, unless}
 use Rattle.definition.specs.Laws.{put}
 use Rattle.definition.specs.Summary.{Finished, Report}
-use Rattle.definition.specs.Whole.{faultyObservation, faultyRequested, soundPriorOf, checkedPoint, checkedCount, checkedMeasured, checkedRequested, withinOf, run, whole}
+use Rattle.definition.specs.Whole.{faultyObservation, faultyRequested, soundPriorOf, checkedPoint, checkedCount, checkedMeasured, checkedRequested}
+use Rattle.definition.specs.Whole.{withinOf, run, whole}
 use Rattle.criteria.specs.Criteria.{mvMin, mvMax, bcMin, bcMax}
 use Rattle.requests.specs.Kept.{kept}
 
@@ -74,7 +75,8 @@ checks-measured m =
     checks-bind (checks-point m)
     (checks-bind (checks-count (m .observations))
     (checks-bind (checks-unless (firstAt faultyObservation (m .observations)) 4)
-    (checks-bind (checks-require (soundPriorOf mvMin mvMax (m .priors .«muzzle_velocity_fps»)) 5 1) (checks-require (soundPriorOf bcMin bcMax (m .priors .«ballistic_coefficient»)) 5 2))))
+    (checks-bind (checks-require (soundPriorOf mvMin mvMax (m .priors .«muzzle_velocity_fps»)) 5 1)
+    (checks-require (soundPriorOf bcMin bcMax (m .priors .«ballistic_coefficient»)) 5 2))))
 
 -- two runs are refused by the same number and position
 pub record Both {A B : Type 0} (t : Run A) (u : Run B) : Type 0 where
@@ -85,7 +87,13 @@ pub record Both {A B : Type 0} (t : Run A) (u : Run B) : Type 0 where
 
 module _ {A B : Type 0} where
   both-first : (t u : Run (Unit {0})) → Both t u → (f : Unit {0} → Run A) (g : Unit {0} → Run B) → Both (bind t f) (bind u g)
-  both-first t u h f g = record { number = h .number; position = h .position; one = ap (λ (x : Run (Unit {0})). bind x f) (h .one); other = ap (λ (x : Run (Unit {0})). bind x g) (h .other) }
+  both-first t u h f g =
+      record {
+        number = h .number;
+        position = h .position;
+        one = ap (λ (x : Run (Unit {0})). bind x f) (h .one);
+        other = ap (λ (x : Run (Unit {0})). bind x g) (h .other);
+      }
 
   both-then : {t : Run (Unit {0})} → Checks t → {u : Run A} {v : Run B} → Both u v → Both (bind t (λ a. u)) (bind t (λ a. v))
   both-then passes d = d
@@ -115,12 +123,16 @@ unfolding whole checkedMeasured
 many-shots o e =
     both-first (checkedMeasured (o .measured)) (checkedMeasured (kept o .measured))
     (both-then (checks-point (o .measured))
-    (both-first (checkedCount (o .measured .observations)) (checkedCount (take 65 (o .measured .observations))) (count-both (o .measured .observations) e) _ _)) _ _
+    (both-first (checkedCount (o .measured .observations)) (checkedCount (take 65 (o .measured .observations))) (count-both (o .measured .observations) e) _
+    _)) _ _
 
-pub many-distances : (o : Opening) → leb (length (o .measured .observations)) 64 ≡ true → leb (length (o .requested)) 64 ≡ false → Both (whole o) (whole (kept o))
+pub many-distances :
+    (o : Opening) → leb (length (o .measured .observations)) 64 ≡ true → leb (length (o .requested)) 64 ≡ false → Both (whole o) (whole (kept o))
 unfolding whole
 many-distances o f e =
-    subst (λ (l : List Observation). Both (whole o) (whole (record { measured = record { entered = o .measured .entered; observations = l; priors = o .measured .priors }; requested = take 65 (o .requested) })))
+    subst (λ (l : List Observation). Both (whole o)
+    (whole
+    (record { measured = record { entered = o .measured .entered; observations = l; priors = o .measured .priors }; requested = take 65 (o .requested) })))
     (sym (below (o .measured .observations) f))
     (both-then (checks-measured (o .measured))
     (both-first (checkedRequested (o .requested)) (checkedRequested (take 65 (o .requested))) (requested-both (o .requested) e) _ _))
@@ -129,11 +141,15 @@ many-distances o f e =
 pub kept-all : (o : Opening) → (kept o ≡ o) ⊎ Both (whole o) (whole (kept o))
 kept-all o = by (leb (length (o .measured .observations)) 64) refl (leb (length (o .requested)) 64) refl
   where
-    by : (u : Bool) → leb (length (o .measured .observations)) 64 ≡ u → (v : Bool) → leb (length (o .requested)) 64 ≡ v → (kept o ≡ o) ⊎ Both (whole o) (whole (kept o))
+    by : (u : Bool) → leb (length (o .measured .observations)) 64 ≡ u → (v : Bool) → leb (length (o .requested)) 64 ≡ v
+        → (kept o ≡ o) ⊎ Both (whole o) (whole (kept o))
     by false e v f = inr (many-shots o e)
     by true e false f = inr (many-distances o e f)
     by true e true f =
-        inl (λ i. record { measured = record { entered = o .measured .entered; observations = below (o .measured .observations) e i; priors = o .measured .priors }; requested = below (o .requested) f i })
+        inl (λ i. record {
+          measured = record { entered = o .measured .entered; observations = below (o .measured .observations) e i; priors = o .measured .priors };
+          requested = below (o .requested) f i;
+        })
 
 pub kept-whole : (o : Opening) → whole (kept o) ≡ whole o
 kept-whole o = by (kept-all o)

@@ -3,7 +3,7 @@ use Prim.Native.Nat.{min}
 use mathlib.Core.Path.{_≡_}
 use lib.ListN.{length, take}
 use Rattle.definition.specs.Request.{Opening}
-use Rattle.session.specs.Opening.{openingOf}
+use Rattle.opening.specs.Opening.{openingOf}
 use Rattle.requests.specs.declared.Request.{Request}
 
 -- the first 65 of each list

@@ -8,8 +8,9 @@ use forms::Sigma;
 ghost use mathlib.Core.Path.{_≡_};
 ghost use lib.ListN.{take};
 ghost use Rattle.definition.specs.Request.{Opening};
-ghost use Rattle.session.specs.Opening.{wantedAt};
-ghost use Rattle.editing.specs.Meaning.{Opened};
+ghost use Rattle.opening.specs.Opening.{wantedAt};
+ghost use Rattle.definition.specs.Session.{Opened};
+ghost use Rattle.editing.specs.Meaning.{seen};
 ghost use Rattle.forms.specs.Reading.{sigmaSays};
 ghost use Rattle.requests.specs.Request.{emptyRequest, withShot, withDistance, withSpeed, withCoefficient, normal, requestedAt};
 ghost use Rattle.requests.specs.Kept.{Keeps, openingIn};
@@ -128,7 +129,7 @@ pub fn first_flags<'a>(s: &'a [bool], n: usize) -> &'a [bool]
 }
 
 pub fn opened(r: Request) -> Answer
-    ensures { λ a. ⌜ Opened (openingIn r) a ⌝ }
+    ensures { λ a. ⌜ Opened seen (openingIn r) (a .step) (a .session) ⌝ }
 {
     let entered = r.entered;
     let priors = r.priors;

@@ -2,7 +2,9 @@
 -- Both the code and the theorem rest on `root-is`. Assumes nothing.
 use mathlib.Core.Path.{_≡_, refl, sym, ap, _∙_, subst}
 use Prim.Native.Nat.{ℕ, zero, suc, _+_, _-_, _*_, _/_, _^_, _≤_, _<_, compare}
-use native.Mathlib.Nat.{zero-lt-suc, le-of-lt, lt-of-not-le, le-trans, le-of-eq, le-of-suc-le-suc, lt-of-le-of-lt, lt-of-lt-of-le, lt-irrefl, lt-trans, mul-le-mul, mul-le-mul-right, mul-le-mul-left, mul-lt-mul-of-pos-right, mul-pos, le-of-mul-le-mul-right, lt-of-mul-lt-mul-right, zero-mul, mul-div-cancel, mul-mul-mul-comm, div-mul-le-self, lt-div-mul-add}
+use native.Mathlib.Nat.{zero-lt-suc, le-of-lt, lt-of-not-le, le-trans, le-of-eq, le-of-suc-le-suc, lt-of-le-of-lt, lt-of-lt-of-le, lt-irrefl, lt-trans}
+use native.Mathlib.Nat.{mul-le-mul, mul-le-mul-right, mul-le-mul-left, mul-lt-mul-of-pos-right, mul-pos, le-of-mul-le-mul-right, lt-of-mul-lt-mul-right}
+use native.Mathlib.Nat.{zero-mul, mul-div-cancel, mul-mul-mul-comm, div-mul-le-self, lt-div-mul-add}
 use native.Mathlib.Omega.{arith}
 use mathlib.Core.Bool.{true, false, true≢false}
 use lib.IntN.{ℤ}
@@ -94,7 +96,8 @@ nearestRoot-is N k q lo hi r =
     let n = N * (2 ^ k * 2 ^ k) in
     let w = isqrt n in
     nearestRoot-at n
-    ∙ ap (λ (x : ℕ). units binary64 false (chosen n w x) x) (dropped w k (lower-digits N (2 ^ k) w lo (isqrt-is n)) (upper-digits N (2 ^ k) w (pow-pos k) hi (isqrt-is n)))
+    ∙ ap (λ (x : ℕ). units binary64 false (chosen n w x) x)
+    (dropped w k (lower-digits N (2 ^ k) w lo (isqrt-is n)) (upper-digits N (2 ^ k) w (pow-pos k) hi (isqrt-is n)))
     ∙ ap (λ (x : ℕ). units binary64 false x k) (rounds-unique N (chosen n w k) q (chosen-rounds N k lo) r)
 
 -- ---- the nearest whole number has 53 digits, or is 2 ^ 53

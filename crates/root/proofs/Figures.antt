@@ -1,5 +1,5 @@
--- Values of the definition, computed: one table, one proof. Inputs and roots as bit patterns, the roots by another machine's own root (tools/root_list.py --figures).
--- Assumes nothing.
+-- Values of the definition, computed: one table, one proof. Inputs and roots as bit patterns, the roots by another machine's own root (tools/root_list.py
+-- --figures). Assumes nothing.
 use mathlib.Core.Bool.{Bool, true, _&&_}
 use mathlib.Core.List.{List, [], _∷_}
 use Prim.Native.Nat.{ℕ}

@@ -2,7 +2,9 @@
 use mathlib.Core.Path.{_≡_, sym, ap, _∙_, subst}
 use mathlib.Core.Logic.{inl, inr}
 use Prim.Native.Nat.{ℕ, zero, suc, _+_, _-_, _*_, _^_, _≤_, _<_, zero-le}
-use native.Mathlib.Nat.{not-suc-le-zero, le-refl, le-trans, le-of-eq, le-of-lt, le-of-suc-le-suc, le-antisymm, lt-of-lt-of-le, lt-of-le-of-lt, lt-of-not-le, lt-irrefl, lt-trans, eq-or-lt-of-le, add-le-add, mul-pos, mul-le-mul, mul-le-mul-left, mul-le-mul-right, mul-lt-mul-of-pos-right, mul-lt-mul-of-pos-left}
+use native.Mathlib.Nat.{not-suc-le-zero, le-refl, le-trans, le-of-eq, le-of-lt, le-of-suc-le-suc, le-antisymm, lt-of-lt-of-le, lt-of-le-of-lt, lt-of-not-le}
+use native.Mathlib.Nat.{lt-irrefl, lt-trans, eq-or-lt-of-le, add-le-add, mul-pos, mul-le-mul, mul-le-mul-left, mul-le-mul-right, mul-lt-mul-of-pos-right}
+use native.Mathlib.Nat.{mul-lt-mul-of-pos-left}
 use native.Mathlib.Omega.{arith}
 use lib.Dec.{lit<}
 use lib.Pow.{pow-pos}
@@ -30,17 +32,21 @@ midpoints : (b r s : ℕ) → NearestRoot b r → NearestRoot b s → r < s → 
 midpoints b r s g h l =
     lt-irrefl (4 * exact b)
     (lt-of-lt-of-le (g .below-upper)
-    (le-trans (square-le (magnitude r + magnitude (r + 1)) (magnitude (s - 1) + magnitude s) (add-le-add (magnitude-le r (s - 1) (omega arith)) (magnitude-le (r + 1) s (omega arith))))
+    (le-trans (square-le (magnitude r + magnitude (r + 1)) (magnitude (s - 1) + magnitude s)
+    (add-le-add (magnitude-le r (s - 1) (omega arith)) (magnitude-le (r + 1) s (omega arith))))
     (le-of-lt (h .above-lower))))
 
 pub unique : Unique
 unique b r s g h =
-    le-antisymm (le-of-suc-le-suc (lt-of-not-le (λ (l : s < r). midpoints b s r h g l))) (le-of-suc-le-suc (lt-of-not-le (λ (l : r < s). midpoints b r s g h l)))
+    le-antisymm (le-of-suc-le-suc (lt-of-not-le (λ (l : s < r). midpoints b s r h g l)))
+    (le-of-suc-le-suc (lt-of-not-le (λ (l : r < s). midpoints b r s g h l)))
 
 pub farther : Farther
 farther b r y g = (
-  λ l. lt-of-lt-of-le (g .below-upper) (square-le (magnitude r + magnitude (r + 1)) (magnitude r + magnitude y) (add-le-add (le-refl (magnitude r)) (magnitude-le (r + 1) y (omega arith)))),
-  λ l. lt-of-le-of-lt (square-le (magnitude r + magnitude y) (magnitude (r - 1) + magnitude r) (other (magnitude r) (magnitude y) (magnitude (r - 1)) (magnitude-le y (r - 1) (omega arith)))) (g .above-lower),
+  λ l. lt-of-lt-of-le (g .below-upper)
+      (square-le (magnitude r + magnitude (r + 1)) (magnitude r + magnitude y) (add-le-add (le-refl (magnitude r)) (magnitude-le (r + 1) y (omega arith)))),
+  λ l. lt-of-le-of-lt (square-le (magnitude r + magnitude y) (magnitude (r - 1) + magnitude r)
+      (other (magnitude r) (magnitude y) (magnitude (r - 1)) (magnitude-le y (r - 1) (omega arith)))) (g .above-lower),
 )
   where
     other : (x y z : ℕ) → y ≤ z → x + y ≤ z + x
@@ -144,4 +150,5 @@ nearest b p l =
     let q = chosen (N * (2 ^ k * 2 ^ k)) (isqrt (N * (2 ^ k * 2 ^ k))) k in
     let r : Rounds N q = chosen-rounds N k (e .least) in
     let g = made-nearest b N k e q r in
-    subst (NearestRoot b) (sym (ap (toBits binary64) (sym (root-is b N k q p l (e .same) (e .least) (e .most) (e .small) r)) ∙ written (k * 2 ^ 52 + q) (g .finite))) g
+    subst (NearestRoot b)
+    (sym (ap (toBits binary64) (sym (root-is b N k q p l (e .same) (e .least) (e .most) (e .small) r)) ∙ written (k * 2 ^ 52 + q) (g .finite))) g

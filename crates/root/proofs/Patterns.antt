@@ -3,7 +3,8 @@
 use mathlib.Core.Path.{_≡_, refl, sym, ap, _∙_, subst}
 use mathlib.Core.Logic.{_≢_, inl, inr}
 use Prim.Native.Nat.{ℕ, zero, suc, _+_, _-_, _*_, _/_, _%_, _^_, _≤_, _<_}
-use native.Mathlib.Nat.{le-add-right, not-suc-le-zero, le-of-suc-le-suc, le-trans, lt-of-lt-of-le, lt-of-le-of-lt, not-le-of-lt, eq-or-lt-of-le, mod-eq-of-lt, mul-le-mul-right, mul-le-mul-left, mul-lt-mul-of-pos-right, pow-succ', mul-div-cancel, mul-one}
+use native.Mathlib.Nat.{le-add-right, not-suc-le-zero, le-of-suc-le-suc, le-trans, lt-of-lt-of-le, lt-of-le-of-lt, not-le-of-lt, eq-or-lt-of-le}
+use native.Mathlib.Nat.{mod-eq-of-lt, mul-le-mul-right, mul-le-mul-left, mul-lt-mul-of-pos-right, pow-succ', mul-div-cancel, mul-one}
 use native.Mathlib.Omega.{arith}
 use mathlib.Core.Bool.{Bool, true, false, not, cond, true≢false}
 use lib.IntN.{ℤ}
@@ -35,7 +36,8 @@ fields-value : (e t : ℕ) → e < 2047 → HasValue (ofFields binary64 false e 
 fields-value zero t h =
     subst (λ (x : Float). HasValue x false t (2 ^ 1074)) (sym (at-zero t))
     (subst (λ (a : ℕ). HasValue (odd 53 false t 0 1074) false a (2 ^ 1074)) (mul-one t) (odd-sign 53 false t 0 1074))
-fields-value (suc e) t h = subst (λ (x : Float). HasValue x false ((2 ^ 52 + t) * 2 ^ e) (2 ^ 1074)) (sym (under-ones e t h)) (odd-sign 53 false (2 ^ 52 + t) e 1074)
+fields-value (suc e) t h =
+    subst (λ (x : Float). HasValue x false ((2 ^ 52 + t) * 2 ^ e) (2 ^ 1074)) (sym (under-ones e t h)) (odd-sign 53 false (2 ^ 52 + t) e 1074)
 
 ofBits-is : (b : ℕ) → ofBits binary64 b ≡ ofFields binary64 (leb (2 ^ 63) b) (b % 2 ^ 63 / 2 ^ 52) (b % 2 ^ 52)
 unfolding ofBits
@@ -54,7 +56,8 @@ pattern-value b h =
     subst (λ (x : Float). HasValue x false (magnitude b) (2 ^ 1074))
     (sym
     (ofBits-is b
-    ∙ ap (λ (s : Bool). ofFields binary64 s (b % 2 ^ 63 / 2 ^ 52) (b % 2 ^ 52)) (is-false (leb (2 ^ 63) b) (not-T (leb (2 ^ 63) b) (λ (u : T (leb (2 ^ 63) b)). not-le-of-lt (small b h) (leb→le (2 ^ 63) b u))))
+    ∙ ap (λ (s : Bool). ofFields binary64 s (b % 2 ^ 63 / 2 ^ 52) (b % 2 ^ 52))
+    (is-false (leb (2 ^ 63) b) (not-T (leb (2 ^ 63) b) (λ (u : T (leb (2 ^ 63) b)). not-le-of-lt (small b h) (leb→le (2 ^ 63) b u))))
     ∙ ap (λ (x : ℕ). ofFields binary64 false (x / 2 ^ 52) (b % 2 ^ 52)) (mod-eq-of-lt (small b h))))
     (fields-value (b / 2 ^ 52) (b % 2 ^ 52) (field-lt b h))
 
@@ -96,7 +99,8 @@ digits-in b = omega arith
 pub magnitude-lt : (b c : ℕ) → b < c → magnitude b < magnitude c
 unfolding magnitude
 magnitude-lt b c h = elim (eq-or-lt-of-le (field-le b c h)) [
-  | inl e ↦ subst (λ (x : ℕ). fieldsMagnitude (b / 2 ^ 52) (b % 2 ^ 52) < fieldsMagnitude x (c % 2 ^ 52)) e (digits-lt (b / 2 ^ 52) (b % 2 ^ 52) (c % 2 ^ 52) (digits-below b c h e))
+  | inl e ↦ subst (λ (x : ℕ). fieldsMagnitude (b / 2 ^ 52) (b % 2 ^ 52) < fieldsMagnitude x (c % 2 ^ 52)) e
+      (digits-lt (b / 2 ^ 52) (b % 2 ^ 52) (c % 2 ^ 52) (digits-below b c h e))
   | inr l ↦ fields-lt (b / 2 ^ 52) (c / 2 ^ 52) (b % 2 ^ 52) (c % 2 ^ 52) l (digits-in b)
 ]
 
@@ -167,7 +171,8 @@ in-range k q l s =
 units-fits : (k q : ℕ) → q ≤ 2 ^ 53 → q * 2 ^ k < 2 ^ 2098 → T (fits binary64 (units binary64 false q k))
 unfolding units
 units-fits k q l r =
-    subst (λ (b : Bool). T (fits binary64 (cond b (odd 54 false q k 1074) (inf false)))) (sym (is-true (ltb (q * 2 ^ k) (2 ^ 2098)) (lt→ltb (q * 2 ^ k) (2 ^ 2098) r)))
+    subst (λ (b : Bool). T (fits binary64 (cond b (odd 54 false q k 1074) (inf false))))
+    (sym (is-true (ltb (q * 2 ^ k) (2 ^ 2098)) (lt→ltb (q * 2 ^ k) (2 ^ 2098) r)))
     (odd-fits binary64 54 false q k (lt-of-le-of-lt l (lit< tt)) l r)
 
 made-finite : (k q : ℕ) → q ≤ 2 ^ 53 → k ≤ 1600 → k * 2 ^ 52 + q < infinity

@@ -45,7 +45,9 @@ short-scales t p l =
     record {
       same = joined t (53 - z) (1021 + z) 1074 (omega arith);
       least = le-trans (le-of-eq (ap (λ (x : ℕ). 2 ^ x) (missing z z-pos z-le) ∙ pow-add 2 (z - 1) (53 - z))) (mul-le-mul-right (2 ^ (53 - z)) lo);
-      most = lt-of-lt-of-le (mul-lt-mul-of-pos-right (size-lt t) (pow-pos (53 - z))) (le-of-eq (sym (pow-add 2 z (53 - z)) ∙ ap (λ (x : ℕ). 2 ^ x) (whole z z-le)));
+      most =
+          lt-of-lt-of-le (mul-lt-mul-of-pos-right (size-lt t) (pow-pos (53 - z)))
+          (le-of-eq (sym (pow-add 2 z (53 - z)) ∙ ap (λ (x : ℕ). 2 ^ x) (whole z z-le)));
       low = omega arith;
       high = omega arith;
     }
@@ -73,7 +75,9 @@ scales b p l = elim (eq-zero-or-pos (b / 2 ^ 52)) [
 
 pub even-split : (m e k n : ℕ) → m * 2 ^ e ≡ n → e ≡ 52 + (k + k) → n ≡ m * 2 ^ 52 * (2 ^ k * 2 ^ k)
 even-split m e k n h s =
-    sym h ∙ ap (λ (x : ℕ). m * x) (ap (λ (x : ℕ). 2 ^ x) s ∙ pow-add 2 52 (k + k) ∙ ap (λ (x : ℕ). 2 ^ 52 * x) (pow-add 2 k k)) ∙ sym (mul-assoc m (2 ^ 52) (2 ^ k * 2 ^ k))
+    sym h
+    ∙ ap (λ (x : ℕ). m * x) (ap (λ (x : ℕ). 2 ^ x) s ∙ pow-add 2 52 (k + k) ∙ ap (λ (x : ℕ). 2 ^ 52 * x) (pow-add 2 k k))
+    ∙ sym (mul-assoc m (2 ^ 52) (2 ^ k * 2 ^ k))
 
 pub odd-split : (m e k n : ℕ) → m * 2 ^ e ≡ n → e ≡ 53 + (k + k) → n ≡ 2 * m * 2 ^ 52 * (2 ^ k * 2 ^ k)
 odd-split m e k n h s =

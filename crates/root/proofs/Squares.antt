@@ -1,7 +1,8 @@
 -- Squares, whole roots and what the definition's rounding gives, over whole numbers alone. Assumes nothing.
 use mathlib.Core.Path.{_≡_, sym, ap, _∙_, subst}
 use Prim.Native.Nat.{ℕ, zero, suc, _+_, _-_, _*_, _/_, _^_, _≤_, _<_, compare, Ordering, Ordering·lt, Ordering·eq, Ordering·gt}
-use native.Mathlib.Nat.{le-antisymm, lt-of-lt-of-le, lt-of-le-of-lt, lt-of-not-le, not-le-of-lt, le-of-suc-le-suc, lt-irrefl, mul-le-mul, pow-succ', pow-le-pow-left, eq-of-mul-eq-mul-right, lt-of-mul-lt-mul-right}
+use native.Mathlib.Nat.{le-antisymm, lt-of-lt-of-le, lt-of-le-of-lt, lt-of-not-le, not-le-of-lt, le-of-suc-le-suc, lt-irrefl, mul-le-mul, pow-succ'}
+use native.Mathlib.Nat.{pow-le-pow-left, eq-of-mul-eq-mul-right, lt-of-mul-lt-mul-right}
 use native.Mathlib.Omega.{arith}
 use mathlib.Core.Bool.{Bool, true, false, not, cond}
 use lib.Dec.{T, leb, isLe, isEq, eqb, leb→le, nleb→lt, eqb→eq, eqb-refl}
@@ -20,7 +21,8 @@ square-lt a b h = lt-of-not-le (λ (g : b ≤ a). not-le-of-lt h (mul-le-mul g g
 abbrev pub Whole : ℕ → ℕ → Type 0
 Whole n w = (w * w ≤ n) × (n < suc w * suc w)
 
-digit : (v n : ℕ) → Whole (n / 4) v → (b : Bool) → (T b → suc (2 * v) * suc (2 * v) ≤ n) → (T (not b) → n < suc (2 * v) * suc (2 * v)) → Whole n (cond b (suc (2 * v)) (2 * v))
+digit : (v n : ℕ) → Whole (n / 4) v → (b : Bool) → (T b → suc (2 * v) * suc (2 * v) ≤ n) → (T (not b) → n < suc (2 * v) * suc (2 * v))
+    → Whole n (cond b (suc (2 * v)) (2 * v))
 digit v n h true yes-fits not-fits = let g = yes-fits tt in omega arith
 digit v n h false yes-fits not-fits = let g = not-fits tt in omega arith
 
@@ -35,7 +37,8 @@ unfolding wholeRoot
 wholeRoot-is zero n h = below-one n h
 wholeRoot-is (suc d) n h =
     let v = wholeRoot d (n / 4) in
-    digit v n (wholeRoot-is d (n / 4) (quarter d n h)) (leb (suc (2 * v) * suc (2 * v)) n) (leb→le (suc (2 * v) * suc (2 * v)) n) (nleb→lt (suc (2 * v) * suc (2 * v)) n)
+    digit v n (wholeRoot-is d (n / 4) (quarter d n h)) (leb (suc (2 * v) * suc (2 * v)) n) (leb→le (suc (2 * v) * suc (2 * v)) n)
+    (nleb→lt (suc (2 * v) * suc (2 * v)) n)
 
 two-four : 2 ≤ 4
 two-four = omega arith

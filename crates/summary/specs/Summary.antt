@@ -1,10 +1,8 @@
--- What the answers of this crate say in the definition's terms; and the definition's parts by what the code reads.
--- Laws.antt shows that these parts are the definition's.
-use Prim.Native.Nat.{ℕ, zero, suc}
-use mathlib.Core.Bool.{Bool, false}
+-- What the answers of this crate say in the definition's terms; and the definition's diagnostics by what the code reads.
+-- proofs/Laws.antt shows that these are the definition's.
+use Prim.Native.Nat.{ℕ}
 use mathlib.Core.Option.{Option, none, some}
-use lib.Ieee.{Float}
-use Rattle.numeric.specs.Numeric.{zero64, finite}
+use Rattle.numeric.specs.Numeric.{zero64}
 use Rattle.definition.specs.Mesh.{Convergence}
 use Rattle.definition.specs.Meaning.{numberOf}
 use Rattle.definition.specs.Summary.{Approximation, Diagnostics, diagnosticsOf}
@@ -34,11 +32,6 @@ diagnosticsSays d = record {
   objectivePollImprovement = numberOf (d .«map_max_objective_poll_improvement»);
   objectivePollEvaluations = d .«map_objective_poll_evaluations»;
 }
-
--- there is a baseline where no entry is missing and the sum is finite
-unfoldable pub isPresent : ℕ → Float → Bool
-isPresent zero s = finite s
-isPresent (suc gap) s = false
 
 -- the diagnostics of n observations: of the fit they read how it was verified and its count of poll evaluations, and nothing else
 unfoldable pub diagnosticsBy : ℕ → Convergence → ℕ → Evaluation → Approximation → Diagnostics

@@ -1,4 +1,4 @@
-// What a finished fit is reported as: observation results, the baseline's presence, `build_approximation` and the diagnostics.
+// What a finished fit is reported as: observation results, `build_approximation` and the diagnostics.
 use definition::Convergence;
 use definition::Evaluation;
 use definition::Number;
@@ -17,7 +17,7 @@ ghost use mathlib.Core.Path.{_≡_};
 ghost use Rattle.definition.specs.Fit.{gradientNormOf};
 ghost use Rattle.definition.specs.Summary.{resultOf, interval95, covarianceOf, correlationOf, withIntervals, buildApproximationOf, approximationOf, effectiveCountOf, effectiveCount, degreesOfFreedom, reducedChiSquare, criterion, pollRadius, pollImprovement};
 ghost use Rattle.definition.specs.Meaning.{numberOf, convergenceOf, approximationSays, observationOf};
-ghost use Rattle.summary.specs.Summary.{isPresent, criterionSays, diagnosticsSays, diagnosticsBy};
+ghost use Rattle.summary.specs.Summary.{criterionSays, diagnosticsSays, diagnosticsBy};
 
 // The scales of the two coordinates: 100 fps and 0.1.
 const MV_COORDINATE_SCALE_FPS: f64 = 100.0;
@@ -27,7 +27,7 @@ const BC_COORDINATE_SCALE: f64 = 0.1;
 // Rust's f64::EPSILON, 2^-52.
 const EPSILON: f64 = 2.220446049250313e-16;
 
-// ---- observation results and baseline
+// ---- observation results
 
 pub fn observation_result(
     range: f64,
@@ -48,19 +48,9 @@ pub fn observation_result(
     }
 }
 
-// Whether the entered point has a baseline: no entry of its reply is missing, and the sum is finite.
-pub fn has_baseline(gap: usize, chi_square: f64) -> bool
-    ensures { λ r. ⌜ r ≡ isPresent gap «chi_square» ⌝ }
-{
-    if gap > 0 {
-        return false;
-    }
-    numeric::is_finite(chi_square)
-}
-
 // ---- the approximation
 
-pub fn covariance(q: Symmetric2) -> TruingCovarianceV1
+fn covariance(q: Symmetric2) -> TruingCovarianceV1
     ensures { λ r. ⌜ r ≡ covarianceOf q ⌝ }
 {
     TruingCovarianceV1 {
@@ -70,7 +60,7 @@ pub fn covariance(q: Symmetric2) -> TruingCovarianceV1
     }
 }
 
-pub fn correlation(c: TruingCovarianceV1) -> f64
+fn correlation(c: TruingCovarianceV1) -> f64
     ensures { λ r. ⌜ r ≡ correlationOf c ⌝ }
 {
     c.mv_bc_covariance_fps / root::root(c.mv_variance_fps2 * c.bc_variance)
@@ -108,7 +98,7 @@ fn with_covariance(p: Point, q: Symmetric2, condition: f64) -> TruingApproximati
     TruingApproximationV1::Unavailable(TruingApproximationFailureCodeV1::NonFiniteInformation)
 }
 
-pub fn build_approximation(p: Point, information: Symmetric2) -> TruingApproximationV1
+fn build_approximation(p: Point, information: Symmetric2) -> TruingApproximationV1
     ensures { λ r. ⌜ approximationSays r ≡ buildApproximationOf p information ⌝ }
 {
     let inverted = information.inverse_with_condition();
@@ -166,7 +156,7 @@ pub struct TruingUncertaintyDiagnosticsV1 {
 }
 
 // The trace of data information times scaled covariance, in 0..2.
-pub fn effective_count(d: Symmetric2, q: Symmetric2) -> f64
+fn effective_count(d: Symmetric2, q: Symmetric2) -> f64
     ensures { λ r. ⌜ r ≡ effectiveCountOf d q ⌝ }
 {
     numeric::clamp(
@@ -176,7 +166,7 @@ pub fn effective_count(d: Symmetric2, q: Symmetric2) -> f64
     )
 }
 
-pub fn effective_parameter_count(d: Symmetric2, a: TruingApproximationV1) -> Number
+fn effective_parameter_count(d: Symmetric2, a: TruingApproximationV1) -> Number
     ensures { λ r. ⌜ numberOf r ≡ effectiveCount d (approximationSays a) ⌝ }
 {
     match a {
@@ -185,7 +175,7 @@ pub fn effective_parameter_count(d: Symmetric2, a: TruingApproximationV1) -> Num
     }
 }
 
-pub fn degrees_of_freedom(n: usize, count: Number) -> Number
+fn degrees_of_freedom(n: usize, count: Number) -> Number
     ensures { λ r. ⌜ numberOf r ≡ degreesOfFreedom n (numberOf count) ⌝ }
 {
     match count {
@@ -194,7 +184,7 @@ pub fn degrees_of_freedom(n: usize, count: Number) -> Number
     }
 }
 
-pub fn reduced_chi_square(chi_square: f64, dof: Number) -> Number
+fn reduced_chi_square(chi_square: f64, dof: Number) -> Number
     ensures { λ r. ⌜ numberOf r ≡ reducedChiSquare «chi_square» (numberOf dof) ⌝ }
 {
     match dof {
@@ -208,7 +198,7 @@ pub fn reduced_chi_square(chi_square: f64, dof: Number) -> Number
     }
 }
 
-pub fn convergence_criterion(convergence: Convergence) -> Criterion
+fn convergence_criterion(convergence: Convergence) -> Criterion
     ensures { λ r. ⌜ criterionSays r ≡ criterion (convergenceOf convergence) ⌝ }
 {
     match convergence {
@@ -222,7 +212,7 @@ pub fn convergence_criterion(convergence: Convergence) -> Criterion
     }
 }
 
-pub fn poll_radius(convergence: Convergence) -> Number
+fn poll_radius(convergence: Convergence) -> Number
     ensures { λ r. ⌜ numberOf r ≡ pollRadius (convergenceOf convergence) ⌝ }
 {
     match convergence {
@@ -232,7 +222,7 @@ pub fn poll_radius(convergence: Convergence) -> Number
     }
 }
 
-pub fn poll_improvement(convergence: Convergence) -> Number
+fn poll_improvement(convergence: Convergence) -> Number
     ensures { λ r. ⌜ numberOf r ≡ pollImprovement (convergenceOf convergence) ⌝ }
 {
     match convergence {

@@ -1,5 +1,5 @@
 -- Which codes the ten truths stand for; and the definition's warnings by the numbers and the lists of numbers that the code reads.
--- Laws.antt shows that these are the definition's.
+-- proofs/Laws.antt shows that these are the definition's.
 use mathlib.Core.Bool.{Bool, true, false, not, _||_}
 use mathlib.Core.List.{List, [], foldl}
 use mathlib.Core.Option.{Option}

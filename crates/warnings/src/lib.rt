@@ -63,7 +63,7 @@ pub fn observed_max(ranges: &[f64]) -> f64
     largest
 }
 
-pub fn is_outside(min: f64, max: f64, range: f64) -> bool
+fn is_outside(min: f64, max: f64, range: f64) -> bool
     ensures { λ r. ⌜ r ≡ outsideOf min max range ⌝ }
 {
     (range < min) | (range > max)
@@ -83,7 +83,7 @@ pub fn any_outside(min: f64, max: f64, ranges: &[f64]) -> bool
 }
 
 // A posterior variance that remains at 0.8 of the prior's or more.
-pub fn dominated(prior: Prior, variance: f64) -> bool
+fn dominated(prior: Prior, variance: f64) -> bool
     ensures { λ r. ⌜ r ≡ dominatedOf prior variance ⌝ }
 {
     match prior {
@@ -92,7 +92,7 @@ pub fn dominated(prior: Prior, variance: f64) -> bool
     }
 }
 
-pub fn crosses_bounds(mv: GaussianIntervalV1, bc: GaussianIntervalV1) -> bool
+fn crosses_bounds(mv: GaussianIntervalV1, bc: GaussianIntervalV1) -> bool
     ensures { λ r. ⌜ r ≡ crossesBoundsOf mv bc ⌝ }
 {
     (mv.lower < criteria::TRUING_MV_MIN_FPS)
@@ -111,7 +111,7 @@ pub fn is_converged(convergence: Convergence) -> bool
     }
 }
 
-pub fn is_mesh(convergence: Convergence) -> bool
+fn is_mesh(convergence: Convergence) -> bool
     ensures { λ r. ⌜ r ≡ isMesh (convergenceOf convergence) ⌝ }
 {
     match convergence {

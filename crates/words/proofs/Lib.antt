@@ -1,2 +1,3 @@
 -- The laws behind the functions' proofs.
+pub mod Rule
 pub mod Rows

@@ -7,11 +7,13 @@ use native.Mathlib.Nat.{le-of-suc-le-suc, not-suc-le-zero}
 use native.Mathlib.Omega.{arith}
 use borrow.Author.Tests.{leb-true, eqb-false, not-true, ltb-true, ltb-false}
 use lib.Dec.{leb, ltb, eqb}
-use lib.ListN.{length, getD, take, drop, set, replicate, length-append, length-replicate, getD-replicate, drop-of-length-le, List·getD-append, List·getD-eq-default}
+use lib.ListN.{length, getD, take, drop, set, replicate, length-append, length-replicate, getD-replicate, drop-of-length-le, List·getD-append}
+use lib.ListN.{List·getD-eq-default}
 use lib.Seq.{getD-append-add, drop-cons, take-suc, take-length, length-take-le, set-at}
 use Rattle.words.specs.Words.{same, words, wordAt, placeIn, placeOf}
 use Rattle.words.specs.Rows.{rowOf, tableOf, low}
-use Rattle.words.specs.Rule.{clean, fit, both-l, both-r, all-fit}
+use Rattle.words.specs.Rule.{clean, fit}
+use Rattle.words.proofs.Rule.{both-l, both-r, all-fit}
 
 -- ---- a row
 

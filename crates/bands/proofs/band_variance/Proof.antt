@@ -38,11 +38,29 @@ returns c = kept _ _ _ (c .if1 .taken)
 
 returns-2 : tie.Need-returns-2
 unfolding bandVarianceOf
-returns-2 c = simp (← c .before .before .before .before .before .abs .ensures, ← c .before .before .before .before .abs2 .ensures, ← c .before .before .before .max .ensures, ← c .before .before .max2 .ensures, c .before .if1 .left, c .if2 .taken)
+returns-2 c =
+    let c1 = c .before .before .before in
+    simp (
+      ← c1 .before .before .abs .ensures,
+      ← c1 .before .abs2 .ensures,
+      ← c1 .max .ensures,
+      ← c .before .before .max2 .ensures,
+      c .before .if1 .left,
+      c .if2 .taken,
+    )
 
 returns-3 : tie.Need-returns-3
 unfolding bandVarianceOf
-returns-3 c = simp (← c .before .before .before .before .before .abs .ensures, ← c .before .before .before .before .abs2 .ensures, ← c .before .before .before .max .ensures, ← c .before .before .max2 .ensures, c .before .if1 .left, c .if2 .left)
+returns-3 c =
+    let c1 = c .before .before .before in
+    simp (
+      ← c1 .before .before .abs .ensures,
+      ← c1 .before .abs2 .ensures,
+      ← c1 .max .ensures,
+      ← c .before .before .max2 .ensures,
+      c .before .if1 .left,
+      c .if2 .left,
+    )
 
 pub band-variance-spec : {M : Type 1} → statement M
 band-variance-spec = tie.close (tie.spec abs-requires abs-requires-2 max-requires max-requires-2 returns returns-2 returns-3)

@@ -29,7 +29,10 @@ returns-2 c = simp (c .before .before .before .latent .given .1, c .enum-told2 .
 
 returns-3 : tie.Need-returns-3
 unfolding futureOf
-returns-3 c = simp (c .before .before .before .before .before .before .latent .given .1, c .before .before .before .sigma .given .1, ← c .from-variance .ensures)
+returns-3 c =
+    let c1 = c .before .before .before in
+    let c2 = c1 .before .before .before in
+    simp (c2 .latent .given .1, c1 .sigma .given .1, ← c .from-variance .ensures)
 
 pub future-spec : {M : Type 1} → statement M
 future-spec = tie.close (tie.spec enum-told enum-known-latent enum-told-2 enum-known-sigma from-variance-requires returns returns-2 returns-3)

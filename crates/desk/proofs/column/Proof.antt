@@ -51,8 +51,12 @@ loop-less c = search needs
 loop-again : tie.Need-loop-again Inv-loop μ-loop
 loop-again c =
     let a = c .before .before .before .before .args in
-    let l = c .before .before .loop in
-    (omega arith, rw length-set (l .inv .1), rw (add-one, l .inv .2) (column-suc (a .stride) (a .offset) (a .n) (a .bytes .now) (l .i) (c .double-at .result) (omega arith) (omega arith) (c .double-at .ensures)))
+    let l = c .before .before .loop in (
+      omega arith,
+      rw length-set (l .inv .1),
+      rw (add-one, l .inv .2)
+          (column-suc (a .stride) (a .offset) (a .n) (a .bytes .now) (l .i) (c .double-at .result) (omega arith) (omega arith) (c .double-at .ensures)),
+    )
 
 returns : tie.Need-returns Inv-loop μ-loop
 returns c =

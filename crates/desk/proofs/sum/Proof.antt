@@ -13,7 +13,8 @@ use Rattle.desk.proofs.sum.Statement.{statement}
 use Rattle.desk.proofs.sum.Tie as tie
 
 -- the places in use of a column's array
-places : (stride offset n : ℕ) (bytes : List ℕ) {array used : List Float} → n ≤ 64 → array ≡ over (columnOf stride offset n bytes) (replicate 64 zero64) → used ≡ take n array → used ≡ columnOf stride offset n bytes
+places : (stride offset n : ℕ) (bytes : List ℕ) {array used : List Float} → n ≤ 64 → array ≡ over (columnOf stride offset n bytes) (replicate 64 zero64)
+    → used ≡ take n array → used ≡ columnOf stride offset n bytes
 places stride offset n bytes h e f = f ∙ ap (take n) e ∙ column-take stride offset n bytes h
 
 column-requires : tie.Need-column-requires
@@ -57,19 +58,22 @@ objective-sum-requires c κs = search needs
 
 returns : tie.Need-returns
 returns c =
-    let s = c .before .before .before .before .before .before .before .before .before .before .before .before .before .before .before in
+    let c1 = c .before .before .before in
+    let c2 = c1 .before .before .before .before in
+    let c3 = c2 .before .before .before in
+    let s = c3 .before .before .before .before .before in
     let a = s .args in
     let obs = a .observations .now in
     c .objective-sum .ensures
     ∙ sum-by (a .priors) (a .p) (a .n) obs (a .replies .now)
-    (c .before .before .before .before .before .before .before .first-places .result .now)
-    (c .before .before .before .before .before .first-places2 .result .now)
-    (c .before .before .before .first-places3 .result .now)
+    (c2 .first-places .result .now)
+    (c1 .before .before .first-places2 .result .now)
+    (c1 .first-places3 .result .now)
     (c .before .first-places4 .result .now)
-    (places 24 0 (a .n) obs (s .pre .0) (c .before .before .before .before .before .before .before .before .before .before .before .before .column .ensures) (c .before .before .before .before .before .before .before .first-places .ensures))
-    (places 24 8 (a .n) obs (s .pre .0) (c .before .before .before .before .before .before .before .before .before .before .before .column2 .ensures) (c .before .before .before .before .before .first-places2 .ensures))
-    (places 24 16 (a .n) obs (s .pre .0) (c .before .before .before .before .before .before .before .before .before .before .column3 .ensures) (c .before .before .before .first-places3 .ensures))
-    (places 8 0 (a .n) (a .replies .now) (s .pre .0) (c .before .before .before .before .before .before .before .before .before .column4 .ensures) (c .before .first-places4 .ensures))
+    (places 24 0 (a .n) obs (s .pre .0) (c3 .before .before .column .ensures) (c2 .first-places .ensures))
+    (places 24 8 (a .n) obs (s .pre .0) (c3 .before .column2 .ensures) (c1 .before .before .first-places2 .ensures))
+    (places 24 16 (a .n) obs (s .pre .0) (c3 .column3 .ensures) (c1 .first-places3 .ensures))
+    (places 8 0 (a .n) (a .replies .now) (s .pre .0) (c2 .before .before .column4 .ensures) (c .before .first-places4 .ensures))
 
 pub sum-spec : {M : Type 1} → statement M
 sum-spec =

@@ -33,26 +33,32 @@ put-inverse-requires c κs = search needs
 
 returns-2 : tie.Need-returns-2
 returns-2 c =
-    let a = c .before .before .before .before .before .args in
+    let c1 = c .before .before .before in
+    let a = c1 .before .before .args in
     let s : Symmetric2 = record { a00 = a .a00; a01 = a .a01; a11 = a .a11 } in
-    answered (inverseOutcome s (a .out .now)) (inverse-by s (a .out .now) nonFinite (c .before .before .before .if1 .left) (sym (ap says (c .enum-told .given .1)) ∙ c .before .before .inverse-with-condition .ensures))
+    answered (inverseOutcome s (a .out .now))
+    (inverse-by s (a .out .now) nonFinite (c1 .if1 .left) (sym (ap says (c .enum-told .given .1)) ∙ c .before .before .inverse-with-condition .ensures))
 
 returns-3 : tie.Need-returns-3
 returns-3 c =
-    let a = c .before .before .before .before .before .args in
+    let c1 = c .before .before .before in
+    let a = c1 .before .before .args in
     let s : Symmetric2 = record { a00 = a .a00; a01 = a .a01; a11 = a .a11 } in
-    answered (inverseOutcome s (a .out .now)) (inverse-by s (a .out .now) rankDeficient (c .before .before .before .if1 .left) (sym (ap says (c .enum-told2 .given .1)) ∙ c .before .before .inverse-with-condition .ensures))
+    answered (inverseOutcome s (a .out .now))
+    (inverse-by s (a .out .now) rankDeficient (c1 .if1 .left) (sym (ap says (c .enum-told2 .given .1)) ∙ c .before .before .inverse-with-condition .ensures))
 
 same-length : tie.Need-same-length
 same-length c = search needs
 
 returns-4 : tie.Need-returns-4
 returns-4 c =
-    let a = c .before .before .before .before .before .before .before .before .before .before .args in
+    let c1 = c .before .before .before .before .before in
+    let c2 = c1 .before .before .before in
+    let a = c2 .before .before .args in
     let s : Symmetric2 = record { a00 = a .a00; a01 = a .a01; a11 = a .a11 } in
-    let f = c .before .before .before .before .before .found .given in
+    let f = c1 .found .given in
     answered (inverseOutcome s (a .out .now))
-    (inverse-by s (a .out .now) (inverse (f .0 .0) (f .0 .1 .0)) (c .before .before .before .before .before .before .before .before .if1 .left) (sym (ap says (f .1)) ∙ c .before .before .before .before .before .before .before .inverse-with-condition .ensures)
+    (inverse-by s (a .out .now) (inverse (f .0 .0) (f .0 .1 .0)) (c2 .if1 .left) (sym (ap says (f .1)) ∙ c1 .before .before .inverse-with-condition .ensures)
     ∙ ap (λ (l : List ℕ). record { code = 0; out = l }) (sym (c .before .before .put-inverse .ensures)))
 
 pub truing-inverse-spec : {M : Type 1} → statement M

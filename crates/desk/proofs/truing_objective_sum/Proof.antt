@@ -56,13 +56,17 @@ same-length c = search needs
 
 returns-4 : tie.Need-returns-4
 returns-4 c =
-    let a = c .before .before .before .before .before .before .before .before .before .before .before .before .args in
+    let c1 = c .before .before .before in
+    let c2 = c1 .before .before .before in
+    let c3 = c2 .before .before .before .before .before .before in
+    let a = c3 .args in
     let q = priorsOf (a .priors) (a .speed-mean) (a .speed-sigma) (a .coefficient-mean) (a .coefficient-sigma) in
     let p : Point = record { mv = a .speed; bc = a .coefficient } in
     let o = sumOutcome q p (a .observations .now) (a .replies .now) (a .out .now) in
     answered o
-    (sum-0 q p (a .observations .now) (a .replies .now) (a .out .now) (c .before .before .before .before .before .before .before .before .if1 .left) (c .before .before .before .before .before .before .before .if2 .left) (c .before .before .put-double .last .0) (c .before .before .before .before .before .before .if3 .left)
-    (c .before .before .put-double .ensures ∙ rw (c .before .before .before .sum .ensures, c .before .before .before .before .before .priors-of .ensures)))
+    (sum-0 q p (a .observations .now) (a .replies .now) (a .out .now) (c2 .before .before .if1 .left) (c2 .before .if2 .left)
+    (c .before .before .put-double .last .0) (c2 .if3 .left)
+    (c .before .before .put-double .ensures ∙ rw (c1 .sum .ensures, c1 .before .before .priors-of .ensures)))
 
 pub truing-objective-sum-spec : {M : Type 1} → statement M
 truing-objective-sum-spec =

@@ -12,23 +12,29 @@ found-flat-requires : tie.Need-found-flat-requires
 found-flat-requires c κs = search needs
 
 returns : tie.Need-returns
-returns c = record {
-  leads = λ m ds rows q.
-      c .found-flat .ensures .leads m ds
-      ∙ iteration-flat (c .before .before .before .args .g) (c .before .before .before .args .e) m ds rows q (sym (c .before .before .is-flat .ensures) ∙ c .before .if1 .taken);
-  within = c .found-flat .ensures .within;
-}
+returns c =
+    let at-if1 = c .before in
+    let at-is-flat = at-if1 .before in
+    let start = at-is-flat .before in
+    record {
+      leads = λ m ds rows q.
+          c .found-flat .ensures .leads m ds
+          ∙ iteration-flat (start .args .g) (start .args .e) m ds rows q (sym (at-is-flat .is-flat .ensures) ∙ at-if1 .if1 .taken);
+    }
 
 next-candidate-requires : tie.Need-next-candidate-requires
 next-candidate-requires c κs = search needs
 
 returns-2 : tie.Need-returns-2
-returns-2 c = record {
-  leads = λ m ds rows q.
-      c .next-candidate .ensures .leads m ds
-      ∙ iteration-trials (c .before .before .before .before .before .args .g) (c .before .before .before .before .before .args .e) m ds rows q (sym (c .before .before .before .before .is-flat .ensures) ∙ c .before .before .before .if1 .left);
-  within = c .next-candidate .ensures .within;
-}
+returns-2 c =
+    let at-if1 = c .before .before .before in
+    let at-is-flat = at-if1 .before in
+    let start = at-is-flat .before in
+    record {
+      leads = λ m ds rows q.
+          c .next-candidate .ensures .leads m ds
+          ∙ iteration-trials (start .args .g) (start .args .e) m ds rows q (sym (at-is-flat .is-flat .ensures) ∙ at-if1 .if1 .left);
+    }
 
 pub after-iteration-spec : {M : Type 1} → statement M
 after-iteration-spec = tie.close (tie.spec is-flat-requires found-flat-requires returns next-candidate-requires returns-2)

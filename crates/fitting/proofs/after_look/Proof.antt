@@ -12,12 +12,14 @@ next-look-requires : tie.Need-next-look-requires
 next-look-requires c κs = search needs
 
 returns : tie.Need-returns
-returns c = record {
-  leads = λ m ds.
-      c .next-look .ensures .leads m ds
-      ∙ look-seen (c .before .before .before .before .before .args .g) (c .before .before .before .before .before .args .c) (c .before .before .before .before .before .args .value) (c .before .before .before .seen .result) m ds (c .before .before .before .seen .ensures);
-  within = c .next-look .ensures .within;
-}
+returns c =
+    let at-seen = c .before .before .before in
+    let start = at-seen .before .before in
+    record {
+      leads = λ m ds.
+          c .next-look .ensures .leads m ds
+          ∙ look-seen (start .args .g) (start .args .c) (start .args .value) (at-seen .seen .result) m ds (at-seen .seen .ensures);
+    }
 
 pub after-look-spec : {M : Type 1} → statement M
 after-look-spec = tie.close (tie.spec seen-requires next-look-requires returns)

@@ -12,12 +12,14 @@ next-look-requires : tie.Need-next-look-requires
 next-look-requires c κs = search needs
 
 returns : tie.Need-returns
-returns c = record {
-  leads = λ m ds rows q.
-      c .next-look .ensures .leads m ds
-      ∙ mesh-poll (c .before .before .before .before .before .before .args .g) (c .before .before .before .before .before .before .args .e) m ds rows q (c .before .before .before .first-pass .result) (c .before .before .before .first-pass .ensures);
-  within = c .next-look .ensures .within;
-}
+returns c =
+    let at-first-pass = c .before .before .before in
+    let start = at-first-pass .before .before .before in
+    record {
+      leads = λ m ds rows q.
+          c .next-look .ensures .leads m ds
+          ∙ mesh-poll (start .args .g) (start .args .e) m ds rows q (at-first-pass .first-pass .result) (at-first-pass .first-pass .ensures);
+    }
 
 pub after-mesh-spec : {M : Type 1} → statement M
 after-mesh-spec = tie.close (tie.spec first-pass-requires next-look-requires returns)

@@ -15,13 +15,17 @@ next-iteration-requires : tie.Need-next-iteration-requires
 next-iteration-requires c κs = search needs
 
 returns : tie.Need-returns
-returns c = record {
-  leads = λ m ds.
-      c .next-iteration .ensures .leads m ds
-      ∙ trial-accepted (c .before .before .before .before .before .before .args .g) (c .before .before .before .before .before .before .args .q) (c .before .before .before .before .before .before .args .value) (c .before .before .before .lowered .result) m ds
-      (sym (c .before .before .before .before .before .objective-improvement-is-material .ensures) ∙ c .before .before .before .before .if1 .taken) (c .before .before .before .lowered .ensures);
-  within = c .next-iteration .ensures .within;
-}
+returns c =
+    let at-lowered = c .before .before .before in
+    let at-if1 = at-lowered .before in
+    let at-objective-improvement-is-material = at-if1 .before in
+    let start = at-objective-improvement-is-material .before in
+    record {
+      leads = λ m ds.
+          c .next-iteration .ensures .leads m ds
+          ∙ trial-accepted (start .args .g) (start .args .q) (start .args .value) (at-lowered .lowered .result) m ds
+          (sym (at-objective-improvement-is-material .objective-improvement-is-material .ensures) ∙ at-if1 .if1 .taken) (at-lowered .lowered .ensures);
+    }
 
 raised-requires : tie.Need-raised-requires
 raised-requires c κs = search needs
@@ -30,13 +34,17 @@ next-candidate-requires : tie.Need-next-candidate-requires
 next-candidate-requires c κs = search needs
 
 returns-2 : tie.Need-returns-2
-returns-2 c = record {
-  leads = λ m ds.
-      c .next-candidate .ensures .leads m ds
-      ∙ trial-rejected (c .before .before .before .before .before .before .before .args .g) (c .before .before .before .before .before .before .before .args .q) (c .before .before .before .before .before .before .before .args .value) (c .before .before .before .before .raised .result) m ds
-      (sym (c .before .before .before .before .before .before .objective-improvement-is-material .ensures) ∙ c .before .before .before .before .before .if1 .left) (c .before .before .before .before .raised .ensures);
-  within = c .next-candidate .ensures .within;
-}
+returns-2 c =
+    let at-raised = c .before .before .before .before in
+    let at-if1 = at-raised .before in
+    let at-objective-improvement-is-material = at-if1 .before in
+    let start = at-objective-improvement-is-material .before in
+    record {
+      leads = λ m ds.
+          c .next-candidate .ensures .leads m ds
+          ∙ trial-rejected (start .args .g) (start .args .q) (start .args .value) (at-raised .raised .result) m ds
+          (sym (at-objective-improvement-is-material .objective-improvement-is-material .ensures) ∙ at-if1 .if1 .left) (at-raised .raised .ensures);
+    }
 
 pub after-trial-spec : {M : Type 1} → statement M
 after-trial-spec =

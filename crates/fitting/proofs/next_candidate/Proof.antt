@@ -15,17 +15,20 @@ enum-told : tie.Need-enum-told
 enum-told c = search needs
 
 returns : tie.Need-returns
-returns c = record {
-  leads = λ m ds.
-      candidate-next (c .before .before .before .before .before .before .before .before .before .args .g) _ _ _ m ds (sym (c .before .before .before .before .next .given .1) ∙ c .before .before .before .before .before .before .next-trial .ensures);
-  within = λ h. h;
-}
+returns c =
+    let at-next = c .before .before .before .before in
+    let at-next-trial = at-next .before .before in
+    let start = at-next-trial .before .before .before in
+    record {
+      leads = λ m ds.
+          candidate-next (start .args .g) _ _ _ m ds (sym (at-next .next .given .1) ∙ at-next-trial .next-trial .ensures);
+    }
 
 returns-2 : tie.Need-returns-2
-returns-2 c = record {
-  leads = λ m ds. candidate-none (c .before .before .before .before .before .args .g) m ds (sym (c .enum-told .given .1) ∙ c .before .before .next-trial .ensures);
-  within = λ h. h;
-}
+returns-2 c =
+    let at-next-trial = c .before .before in
+    let start = at-next-trial .before .before .before in
+    record { leads = λ m ds. candidate-none (start .args .g) m ds (sym (c .enum-told .given .1) ∙ at-next-trial .next-trial .ensures) }
 
 pub next-candidate-spec : {M : Type 1} → statement M
 next-candidate-spec = tie.close (tie.spec next-trial-requires enum-known-next enum-told returns returns-2)

@@ -16,10 +16,13 @@ next-iteration-requires : tie.Need-next-iteration-requires
 next-iteration-requires c κs = search needs
 
 returns : tie.Need-returns
-returns c = record {
-  leads = λ m ds. c .next-iteration .ensures .leads m ds ∙ ap (λ (p : Point). bind (iterate m 100 p (c .before .before .before .before .before .args .value) firstDamping 0) (fitted m ds)) (c .before .before .before .before .blank .ensures .point);
-  within = c .next-iteration .ensures .within;
-}
+returns c =
+    let at-blank = c .before .before .before .before in
+    let start = at-blank .before in
+    record {
+      leads = λ m ds. c .next-iteration .ensures .leads m ds ∙ ap
+          (λ (p : Point). bind (iterate m 100 p (start .args .value) firstDamping 0) (fitted m ds)) (at-blank .blank .ensures .point);
+    }
 
 pub start-spec : {M : Type 1} → statement M
 start-spec = tie.close (tie.spec blank-requires next-iteration-requires returns)

@@ -19,7 +19,9 @@ only-nan (fin s m e) t = absurd t
 returns : tie.Need-returns
 returns c =
     let b = c .before .args .b in
-    nan-made ∙ only-nan (ofBits binary64 b) (subst T (sym (nanBits-above binary64 b) ∙ nanBits-is binary64 b) (lt→ltb 0x7ff0_0000_0000_0000 (b % 2 ^ 63) (c .if1 .taken)))
+    nan-made
+    ∙ only-nan (ofBits binary64 b)
+    (subst T (sym (nanBits-above binary64 b) ∙ nanBits-is binary64 b) (lt→ltb 0x7ff0_0000_0000_0000 (b % 2 ^ 63) (c .if1 .taken)))
 
 float-from-bits-result : tie.Need-float-from-bits-result
 float-from-bits-result c =

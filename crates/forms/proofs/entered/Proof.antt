@@ -28,11 +28,17 @@ enum-told-2 c = search needs
 
 returns-3 : tie.Need-returns-3
 unfolding enteredIn enteredOf
-returns-3 c = λ es. simp (eq-eqb _ _ (c .before .before .before .before .before .before .before .if1 .left), c .before .before .before .p .given .1, c .enum-told2 .given .1)
+returns-3 c =
+    let c1 = c .before .before .before in
+    let c2 = c1 .before .before .before .before in
+    λ es. simp (eq-eqb _ _ (c2 .if1 .left), c1 .p .given .1, c .enum-told2 .given .1)
 
 returns-4 : tie.Need-returns-4
 unfolding enteredIn enteredOf
-returns-4 c = λ es. simp (eq-eqb _ _ (c .before .before .before .before .before .before .before .before .if1 .left), c .before .before .before .before .p .given .1, c .before .q .given .1)
+returns-4 c =
+    let c1 = c .before .before .before .before in
+    let c2 = c1 .before .before .before .before in
+    λ es. simp (eq-eqb _ _ (c2 .if1 .left), c1 .p .given .1, c .before .q .given .1)
 
 pub entered-spec : {M : Type 1} → statement M
 entered-spec = tie.close (tie.spec returns enum-known-p enum-told returns-2 enum-known-q enum-told-2 returns-3 returns-4)

@@ -28,7 +28,10 @@ enum-told-2 c = search needs
 
 returns-3 : tie.Need-returns-3
 unfolding exchangeIn exchangeOf
-returns-3 c = λ es. simp (eq-eqb _ _ (c .before .before .before .before .before .before .before .before .if1 .left), c .before .before .before .k .given .1, c .enum-told2 .given .1)
+returns-3 c =
+    let c1 = c .before .before .before in
+    let c2 = c1 .before .before .before .before .before in
+    λ es. simp (eq-eqb _ _ (c2 .if1 .left), c1 .k .given .1, c .enum-told2 .given .1)
 
 sigma-in-requires : tie.Need-sigma-in-requires
 sigma-in-requires c κs = search needs
@@ -41,11 +44,21 @@ enum-told-3 c = search needs
 
 returns-4 : tie.Need-returns-4
 unfolding exchangeIn exchangeOf
-returns-4 c = λ es. simp (eq-eqb _ _ (c .before .before .before .before .before .before .before .before .before .before .before .before .if1 .left), c .before .before .before .before .before .before .before .k .given .1, c .before .before .before .before .p .given .1, ← c .before .before .sigma-in .ensures, c .enum-told3 .given .1)
+returns-4 c =
+    let c1 = c .before .before .before .before in
+    let c2 = c1 .before .before .before in
+    let c3 = c2 .before .before .before .before .before in
+    λ es. simp (eq-eqb _ _ (c3 .if1 .left), c2 .k .given .1, c1 .p .given .1, ← c .before .before .sigma-in .ensures, c .enum-told3 .given .1)
 
 returns-5 : tie.Need-returns-5
 unfolding exchangeIn exchangeOf
-returns-5 c = λ es. simp (eq-eqb _ _ (c .before .before .before .before .before .before .before .before .before .before .before .before .before .if1 .left), c .before .before .before .before .before .before .before .before .k .given .1, c .before .before .before .before .before .p .given .1, ← c .before .before .before .sigma-in .ensures, c .before .t .given .1)
+returns-5 c =
+    let c1 = c .before .before .before in
+    let c2 = c1 .before .before .before .before .before in
+    let c3 = c2 .before .before .before .before .before in
+    λ es. simp (eq-eqb _ _ (c3 .if1 .left), c2 .k .given .1, c1 .before .before .p .given .1, ← c1 .sigma-in .ensures, c .before .t .given .1)
 
 pub exchange-spec : {M : Type 1} → statement M
-exchange-spec = tie.close (tie.spec returns enum-known-k enum-told returns-2 enum-known-p enum-told-2 returns-3 sigma-in-requires enum-known-t enum-told-3 returns-4 returns-5)
+exchange-spec =
+    tie.close
+    (tie.spec returns enum-known-k enum-told returns-2 enum-known-p enum-told-2 returns-3 sigma-in-requires enum-known-t enum-told-3 returns-4 returns-5)

@@ -38,7 +38,15 @@ session-form-requires : tie.Need-session-form-requires
 session-form-requires c κs = search needs
 
 returns-6 : tie.Need-returns-6
-returns-6 c = λ es. rw (ne-eqb _ _ (c .before .before .before .before .before .if1 .left), ne-eqb _ _ (c .before .before .before .before .if2 .left), ne-eqb _ _ (c .before .before .before .if3 .left), ne-eqb _ _ (c .before .before .if4 .left), ne-eqb _ _ (c .before .if5 .left)) (c .session-form .ensures es)
+returns-6 c =
+    let c1 = c .before .before .before in
+    λ es. rw (
+      ne-eqb _ _ (c1 .before .before .if1 .left),
+      ne-eqb _ _ (c1 .before .if2 .left),
+      ne-eqb _ _ (c1 .if3 .left),
+      ne-eqb _ _ (c .before .before .if4 .left),
+      ne-eqb _ _ (c .before .if5 .left),
+    ) (c .session-form .ensures es)
 
 pub named-form-spec : {M : Type 1} → statement M
 named-form-spec =

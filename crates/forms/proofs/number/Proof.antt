@@ -49,7 +49,9 @@ returns-2 c =
     let x = a .base * l .m + d .result in
     let over = over-is x (sym (ap saysCount (c .enum-told .given .1)) ∙ c .before .before .longer .ensures) in
     let on = read-on (a .base) (l .m) (a .s .now) (l .i) (omega arith) (rw (d .ensures) at (c .before .before .before .if1 .left)) in
-    sym (l .inv .2 ∙ ap within64 (rw (← d .ensures) at on) ∙ over-stays (a .base) x (drop (suc (l .i)) (a .s .now)) (c .before .before .before .before .before .before .before .before .before .pre .0) over)
+    sym (l .inv .2
+    ∙ ap within64 (rw (← d .ensures) at on)
+    ∙ over-stays (a .base) x (drop (suc (l .i)) (a .s .now)) (c .before .before .before .before .before .before .before .before .before .pre .0) over)
 
 add-i : tie.Need-add-i Inv-loop μ-loop
 add-i c = search needs

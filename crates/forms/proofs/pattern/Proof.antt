@@ -14,7 +14,8 @@ nan-pattern = refl
 
 returns : tie.Need-returns
 returns c =
-    subst (λ (x : Float). 0x7ff8_0000_0000_0000 ≡ toBits binary64 x) (sym (differs-from-itself (c .before .args .x) (subst T (sym (c .if1 .taken)) tt))) nan-pattern
+    subst (λ (x : Float). 0x7ff8_0000_0000_0000 ≡ toBits binary64 x) (sym (differs-from-itself (c .before .args .x) (subst T (sym (c .if1 .taken)) tt)))
+    nan-pattern
 
 float-to-bits-result : tie.Need-float-to-bits-result
 float-to-bits-result c = not-nan (c .before .args .x) (c .if1 .left)

@@ -18,7 +18,9 @@ number-requires : tie.Need-number-requires
 number-requires c κs = search needs
 
 returns-3 : tie.Need-returns-3
-returns-3 c = c .number .ensures ∙ sym (no-leading-zero (c .before .before .before .before .before .args .s .now) (c .before .before .before .if1 .left) (c .before .if2 .left))
+returns-3 c =
+    let c1 = c .before .before .before in
+    c .number .ensures ∙ sym (no-leading-zero (c1 .before .before .args .s .now) (c1 .if1 .left) (c .before .if2 .left))
 
 pub read-count-spec : {M : Type 1} → statement M
 read-count-spec =

@@ -14,7 +14,10 @@ read-count-requires : tie.Need-read-count-requires
 read-count-requires c κs = search needs
 
 returns : tie.Need-returns
-returns c = read-word (c .before .before .before .before .args .s .now) (c .before .before .find .result) (c .before .read-double .result) (c .read-count .result) (c .before .before .find .ensures) (c .before .read-double .ensures) (c .read-count .ensures)
+returns c =
+    let c1 = c .before .before .before .before in
+    read-word (c1 .args .s .now) (c .before .before .find .result) (c .before .read-double .result) (c .read-count .result)
+    (c .before .before .find .ensures) (c .before .read-double .ensures) (c .read-count .ensures)
 
 pub read-word-spec : {M : Type 1} → statement M
 read-word-spec = tie.close (tie.spec find-requires read-double-requires read-count-requires returns)

@@ -41,7 +41,16 @@ returns-6 : tie.Need-returns-6
 returns-6 c = λ es. rw (c .before .if6 .taken) (c .asked .ensures es)
 
 returns-7 : tie.Need-returns-7
-returns-7 c = λ es. rw (ne-eqb _ _ (c .before .before .before .before .before .if1 .left), ne-eqb _ _ (c .before .before .before .before .if2 .left), ne-eqb _ _ (c .before .before .before .if3 .left), ne-eqb _ _ (c .before .before .if4 .left), ne-eqb _ _ (c .before .if5 .left), ne-eqb _ _ (c .if6 .left))
+returns-7 c =
+    let c1 = c .before .before .before in
+    λ es. rw (
+      ne-eqb _ _ (c1 .before .before .if1 .left),
+      ne-eqb _ _ (c1 .before .if2 .left),
+      ne-eqb _ _ (c1 .if3 .left),
+      ne-eqb _ _ (c .before .before .if4 .left),
+      ne-eqb _ _ (c .before .if5 .left),
+      ne-eqb _ _ (c .if6 .left),
+    )
 
 pub session-form-spec : {M : Type 1} → statement M
 session-form-spec =

@@ -28,7 +28,10 @@ enum-told-2 c = search needs
 
 returns-3 : tie.Need-returns-3
 unfolding shotIn shotOf
-returns-3 c = λ es. simp (eq-eqb _ _ (c .before .before .before .before .before .before .before .before .if1 .left), c .before .before .before .p .given .1, c .enum-told2 .given .1)
+returns-3 c =
+    let c1 = c .before .before .before in
+    let c2 = c1 .before .before .before .before .before in
+    λ es. simp (eq-eqb _ _ (c2 .if1 .left), c1 .p .given .1, c .enum-told2 .given .1)
 
 enum-known-s : tie.Need-enum-known-s
 enum-known-s c = search needs
@@ -38,11 +41,19 @@ enum-told-3 c = search needs
 
 returns-4 : tie.Need-returns-4
 unfolding shotIn shotOf
-returns-4 c = λ es. simp (eq-eqb _ _ (c .before .before .before .before .before .before .before .before .before .before .before .if1 .left), c .before .before .before .before .before .before .p .given .1, c .before .before .before .q .given .1, c .enum-told3 .given .1)
+returns-4 c =
+    let c1 = c .before .before .before in
+    let c2 = c1 .before .before .before in
+    let c3 = c2 .before .before .before .before .before in
+    λ es. simp (eq-eqb _ _ (c3 .if1 .left), c2 .p .given .1, c1 .q .given .1, c .enum-told3 .given .1)
 
 returns-5 : tie.Need-returns-5
 unfolding shotIn shotOf
-returns-5 c = λ es. simp (eq-eqb _ _ (c .before .before .before .before .before .before .before .before .before .before .before .before .if1 .left), c .before .before .before .before .before .before .before .p .given .1, c .before .before .before .before .q .given .1, c .before .s .given .1)
+returns-5 c =
+    let c1 = c .before .before .before .before in
+    let c2 = c1 .before .before .before in
+    let c3 = c2 .before .before .before .before .before in
+    λ es. simp (eq-eqb _ _ (c3 .if1 .left), c2 .p .given .1, c1 .q .given .1, c .before .s .given .1)
 
 pub shot-spec : {M : Type 1} → statement M
 shot-spec = tie.close (tie.spec returns enum-known-p enum-told returns-2 enum-known-q enum-told-2 returns-3 enum-known-s enum-told-3 returns-4 returns-5)

@@ -15,7 +15,9 @@ spell-requires : tie.Need-spell-requires
 spell-requires c κs = search needs
 
 returns : tie.Need-returns
-returns c = c .before .spell .ensures ∙ in-16 (c .before .before .before .pattern .result) (c .before .before .before .before .args .x) (c .before .before .before .pattern .ensures)
+returns c =
+    let c1 = c .before .before .before in
+    c .before .spell .ensures ∙ in-16 (c1 .pattern .result) (c1 .before .args .x) (c1 .pattern .ensures)
 
 pub write-double-spec : {M : Type 1} → statement M
 write-double-spec =

@@ -9,8 +9,8 @@ use lib.ListN.{length, take}
 use lib.Seq.{take-all}
 use Rattle.definition.specs.Lists.{firstAt}
 use Rattle.definition.specs.Run.{isMissing}
-use Rattle.likelihood.specs.Arrays.{entriesOf}
-use Rattle.likelihood.specs.Laws.{unset-here, entries-length}
+use Rattle.definition.specs.Session.{entriesOf}
+use Rattle.likelihood.proofs.Laws.{unset-here, entries-length}
 use Rattle.likelihood.proofs.any_gap.Statement.{statement}
 use Rattle.likelihood.proofs.any_gap.Tie as tie
 
@@ -19,7 +19,8 @@ neither false b e = (refl, e)
 neither true b e = let z : _≡_ {A = ℕ} 0 1 = cc in absurd (omega arith)
 
 abbrev Inv-loop : tie.InvT-loop
-Inv-loop drops flags n found₀ i₀ found i = (n ≡ min (length drops) (length flags)) × (i ≤ n) × (found ≡ false → firstAt isMissing (take i (entriesOf drops flags)) ≡ 0)
+Inv-loop drops flags n found₀ i₀ found i =
+    (n ≡ min (length drops) (length flags)) × (i ≤ n) × (found ≡ false → firstAt isMissing (take i (entriesOf drops flags)) ≡ 0)
 
 abbrev μ-loop : tie.MeasureT-loop
 μ-loop drops flags n found₀ i₀ found i = n - i

@@ -12,7 +12,7 @@ use Rattle.definition.specs.Lists.{foldPairs}
 use Rattle.definition.specs.Request.{Observation}
 use Rattle.definition.specs.Likelihood.{withShot, chiSquareOf}
 use Rattle.definition.specs.Meaning.{observationOf, observationsOf}
-use Rattle.likelihood.specs.Laws.{fold-suc, fold-all, zip3-at, zip3-shortest, zip3-within}
+use Rattle.likelihood.proofs.Laws.{fold-suc, fold-all, zip3-at, zip3-shortest, zip3-within}
 use Rattle.likelihood.proofs.chi_square.Statement.{statement}
 use Rattle.likelihood.proofs.chi_square.Tie as tie
 
@@ -20,15 +20,19 @@ module _ (rs ds ss ps : List Float) (i : ℕ) where
   abbrev upTo : ℕ → Float
   upTo k = foldPairs withShot zero64 (take k (observationsOf rs ds ss)) (take k ps)
 
-  one-more : i < length (observationsOf rs ds ss) → i < length ps → withShot (upTo i) (observationOf (getD rs i nan) (getD ds i nan) (getD ss i nan)) (getD ps i nan) ≡ upTo (suc i)
+  one-more : i < length (observationsOf rs ds ss) → i < length ps
+      → withShot (upTo i) (observationOf (getD rs i nan) (getD ds i nan) (getD ss i nan)) (getD ps i nan) ≡ upTo (suc i)
   one-more g h =
       let w = zip3-within observationOf rs ds ss in
       let q = observationOf nan nan nan in
       sym (fold-suc withShot zero64 (observationsOf rs ds ss) ps i q nan g h
-      ∙ ap (λ (o : Observation). withShot (upTo i) o (getD ps i nan)) (zip3-at observationOf rs ds ss i q nan nan nan (omega arith) (omega arith) (omega arith)))
+      ∙ ap (λ (o : Observation). withShot (upTo i) o (getD ps i nan))
+      (zip3-at observationOf rs ds ss i q nan nan nan (omega arith) (omega arith) (omega arith)))
 
 abbrev Inv-loop : tie.InvT-loop
-Inv-loop ranges drops sigmas predicted shots n sum₀ i₀ sum i = (n ≡ min (length (observationsOf ranges drops sigmas)) (length predicted)) × (n ≤ length drops) × (n ≤ length sigmas) × (i ≤ n) × (sum ≡ foldPairs withShot zero64 (take i (observationsOf ranges drops sigmas)) (take i predicted))
+Inv-loop ranges drops sigmas predicted shots n sum₀ i₀ sum i =
+    (n ≡ min (length (observationsOf ranges drops sigmas)) (length predicted)) × (n ≤ length drops) × (n ≤ length sigmas) × (i ≤ n)
+    × (sum ≡ foldPairs withShot zero64 (take i (observationsOf ranges drops sigmas)) (take i predicted))
 
 abbrev μ-loop : tie.MeasureT-loop
 μ-loop ranges drops sigmas predicted shots n sum₀ i₀ sum i = n - i
@@ -75,8 +79,13 @@ loop-again : tie.Need-loop-again Inv-loop μ-loop
 loop-again c =
     let l = c .before .before .before .before in
     let a = l .before .before .before .before .before .before .before .args in
-    let v = l .loop .inv in
-    (v .0, v .1, v .2, omega arith, rw (add-one, v .4) (one-more (a .ranges .now) (a .drops .now) (a .sigmas .now) (a .predicted .now) (l .loop .i) (omega arith) (omega arith)))
+    let v = l .loop .inv in (
+      v .0,
+      v .1,
+      v .2,
+      omega arith,
+      rw (add-one, v .4) (one-more (a .ranges .now) (a .drops .now) (a .sigmas .now) (a .predicted .now) (l .loop .i) (omega arith) (omega arith)),
+    )
 
 returns : tie.Need-returns Inv-loop μ-loop
 unfolding chiSquareOf

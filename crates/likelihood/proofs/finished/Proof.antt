@@ -30,7 +30,21 @@ column-condition-requires c κs = search needs
 
 returns : tie.Need-returns
 unfolding finishedOf
-returns c = simp (← c .before .before .before .before .before .before .before .prior-information .ensures, ← c .before .before .before .before .before .before .prior-information2 .ensures, ← c .before .before .before .before .before .add .ensures, ← c .before .before .before .before .with-prior-gradient .ensures, ← c .before .before .before .with-prior-gradient2 .ensures, ← c .before .before .with-priors .ensures, ← c .before .sensitivity-ratio .ensures, ← c .column-condition .ensures)
+returns c =
+    let c1 = c .before .before .before in
+    let c2 = c1 .before .before .before in
+    simp (
+      ← c2 .before .prior-information .ensures,
+      ← c2 .prior-information2 .ensures,
+      ← c1 .before .before .add .ensures,
+      ← c1 .before .with-prior-gradient .ensures,
+      ← c1 .with-prior-gradient2 .ensures,
+      ← c .before .before .with-priors .ensures,
+      ← c .before .sensitivity-ratio .ensures,
+      ← c .column-condition .ensures,
+    )
 
 pub finished-spec : {M : Type 1} → statement M
-finished-spec = tie.close (tie.spec prior-information-requires prior-information-requires-2 add-requires with-prior-gradient-requires with-prior-gradient-requires-2 with-priors-requires sensitivity-ratio-requires column-condition-requires returns)
+finished-spec =
+    tie.close (tie.spec prior-information-requires prior-information-requires-2 add-requires with-prior-gradient-requires with-prior-gradient-requires-2
+    with-priors-requires sensitivity-ratio-requires column-condition-requires returns)

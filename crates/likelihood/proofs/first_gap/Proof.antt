@@ -9,8 +9,8 @@ use lib.ListN.{length, take}
 use lib.Seq.{take-all}
 use Rattle.definition.specs.Lists.{firstAt}
 use Rattle.definition.specs.Run.{isMissing}
-use Rattle.likelihood.specs.Arrays.{entriesOf}
-use Rattle.likelihood.specs.Laws.{set-here, unset-here, entries-length}
+use Rattle.definition.specs.Session.{entriesOf}
+use Rattle.likelihood.proofs.Laws.{set-here, unset-here, entries-length}
 use Rattle.likelihood.proofs.first_gap.Statement.{statement}
 use Rattle.likelihood.proofs.first_gap.Tie as tie
 
@@ -53,8 +53,11 @@ loop-less c = search needs
 loop-again : tie.Need-loop-again Inv-loop μ-loop
 loop-again c =
     let l = c .before .before .before in
-    let a = l .before .before .before .before .before .before .args in
-    (l .loop .inv .0, omega arith, rw add-one (unset-here (a .drops .now) (a .missing .now) (l .loop .i) (omega arith) (omega arith) (l .loop .inv .2) (c .if2 .left)))
+    let a = l .before .before .before .before .before .before .args in (
+      l .loop .inv .0,
+      omega arith,
+      rw add-one (unset-here (a .drops .now) (a .missing .now) (l .loop .i) (omega arith) (omega arith) (l .loop .inv .2) (c .if2 .left)),
+    )
 
 returns-3 : tie.Need-returns-3 Inv-loop μ-loop
 returns-3 c =

@@ -31,7 +31,9 @@ returns-3 : tie.Need-returns-3
 returns-3 c = earlier (c .before .before .before .args .i) (c .before .before .before .args .j) (c .before .before .if1 .left) (c .if3 .taken)
 
 returns-4 : tie.Need-returns-4
-returns-4 c = later (c .before .before .before .args .i) (c .before .before .before .args .j) (c .before .before .if1 .left) (c .before .if2 .left) (c .if3 .left)
+returns-4 c =
+    let c1 = c .before .before .before in
+    later (c1 .args .i) (c1 .args .j) (c .before .before .if1 .left) (c .before .if2 .left) (c .if3 .left)
 
 pub first-of-spec : {M : Type 1} → statement M
 first-of-spec = tie.close (tie.spec returns returns-2 returns-3 returns-4)

@@ -9,20 +9,24 @@ use borrow.Author.Needs.{needs}
 use lib.ListN.{length, getD, take, set, length-set}
 use lib.Ieee.{Float, nan}
 use Rattle.definition.specs.Run.{dropOr0}
-use Rattle.likelihood.specs.Arrays.{shortestOf, entryOf, entriesOf, over}
-use Rattle.likelihood.specs.Laws.{over-suc, over-all, drops-length, drops-at}
+use Rattle.definition.specs.Session.{entryOf, entriesOf}
+use Rattle.likelihood.specs.Arrays.{shortestOf, over}
+use Rattle.likelihood.proofs.Laws.{over-suc, over-all, drops-length, drops-at}
 use Rattle.likelihood.proofs.lay_drops.Statement.{statement}
 use Rattle.likelihood.proofs.lay_drops.Tie as tie
 
 one-more : (ds : List Float) (ms : List Bool) (out : List Float) (i : ℕ) → i < length ds → i < length ms → i < length out
-    → set (over (take i (map dropOr0 (entriesOf ds ms))) out) i (dropOr0 (entryOf (getD ds i nan) (getD ms i false))) ≡ over (take (suc i) (map dropOr0 (entriesOf ds ms))) out
+    → set (over (take i (map dropOr0 (entriesOf ds ms))) out) i (dropOr0 (entryOf (getD ds i nan) (getD ms i false)))
+    ≡ over (take (suc i) (map dropOr0 (entriesOf ds ms))) out
 one-more ds ms out i g h k =
     let v = map dropOr0 (entriesOf ds ms) in
     let e = drops-length ds ms in
     ap (λ (x : Float). set (over (take i v) out) i x) (sym (drops-at ds ms i g h)) ∙ over-suc v out i nan (omega arith) k
 
 abbrev Inv-loop : tie.InvT-loop
-Inv-loop out₀ drops missing n i₀ out i = (n ≡ min (length out₀) (min (length drops) (length missing))) × (i ≤ n) × (length out ≡ length out₀) × (out ≡ over (take i (map dropOr0 (entriesOf drops missing))) out₀)
+Inv-loop out₀ drops missing n i₀ out i =
+    (n ≡ min (length out₀) (min (length drops) (length missing))) × (i ≤ n) × (length out ≡ length out₀)
+    × (out ≡ over (take i (map dropOr0 (entriesOf drops missing))) out₀)
 
 abbrev μ-loop : tie.MeasureT-loop
 μ-loop out₀ drops missing n i₀ out i = n - i
@@ -62,8 +66,13 @@ loop-again : tie.Need-loop-again Inv-loop μ-loop
 loop-again c =
     let l = c .before .before .before .before in
     let a = l .before .before .before .before .before .args in
-    let v = l .loop .inv in
-    (v .0, omega arith, length-set (l .loop .out) (l .loop .i) (c .drop-or-0 .result) ∙ v .2, rw (add-one, v .3, c .drop-or-0 .ensures) (one-more (a .drops .now) (a .missing .now) (a .out .now) (l .loop .i) (omega arith) (omega arith) (omega arith)))
+    let v = l .loop .inv in (
+      v .0,
+      omega arith,
+      length-set (l .loop .out) (l .loop .i) (c .drop-or-0 .result) ∙ v .2,
+      rw (add-one, v .3, c .drop-or-0 .ensures)
+          (one-more (a .drops .now) (a .missing .now) (a .out .now) (l .loop .i) (omega arith) (omega arith) (omega arith)),
+    )
 
 same-length : tie.Need-same-length Inv-loop μ-loop
 same-length c = c .before .loop .inv .2

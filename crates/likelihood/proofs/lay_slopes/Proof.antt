@@ -10,8 +10,9 @@ use lib.ListN.{length, getD, take, set, length-set, length-take}
 use lib.Ieee.{Float, nan}
 use Rattle.definition.specs.Run.{dropOr0}
 use Rattle.definition.specs.Likelihood.{slope, slopes}
-use Rattle.likelihood.specs.Arrays.{shortestOf, entryOf, entriesOf, over}
-use Rattle.likelihood.specs.Laws.{over-suc, over-all, over-past, zip-at, zip-length, drops-length, drops-at}
+use Rattle.definition.specs.Session.{entryOf, entriesOf}
+use Rattle.likelihood.specs.Arrays.{shortestOf, over}
+use Rattle.likelihood.proofs.Laws.{over-suc, over-all, over-past, zip-at, zip-length, drops-length, drops-at}
 use Rattle.likelihood.proofs.lay_slopes.Statement.{statement}
 use Rattle.likelihood.proofs.lay_slopes.Tie as tie
 
@@ -23,19 +24,23 @@ module _ (step : Float) (ds : List Float) (ms : List Bool) (out : List Float) wh
   all = slopes step out lower
 
   one-more : (i : ℕ) → i < length ds → i < length ms → i < length out
-      → set (over (take i all) out) i (slope step (getD (over (take i all) out) i nan) (dropOr0 (entryOf (getD ds i nan) (getD ms i false)))) ≡ over (take (suc i) all) out
+      → set (over (take i all) out) i (slope step (getD (over (take i all) out) i nan) (dropOr0 (entryOf (getD ds i nan) (getD ms i false))))
+      ≡ over (take (suc i) all) out
   one-more i g h k =
       let e = drops-length ds ms in
       let f = zip-length (slope step) out lower in
       let t = length-take i all in
       let m : i < length lower = omega arith in
-      ap (λ (x : Float). set (over (take i all) out) i (slope step x (dropOr0 (entryOf (getD ds i nan) (getD ms i false))))) (over-past (take i all) out i nan (omega arith))
+      ap (λ (x : Float). set (over (take i all) out) i (slope step x (dropOr0 (entryOf (getD ds i nan) (getD ms i false)))))
+      (over-past (take i all) out i nan (omega arith))
       ∙ ap (λ (x : Float). set (over (take i all) out) i (slope step (getD out i nan) x)) (sym (drops-at ds ms i g h))
       ∙ ap (λ (x : Float). set (over (take i all) out) i x) (sym (zip-at (slope step) out lower i nan nan nan k (omega arith)))
       ∙ over-suc all out i nan (omega arith) k
 
 abbrev Inv-loop : tie.InvT-loop
-Inv-loop out₀ step drops missing n i₀ out i = (n ≡ min (length out₀) (min (length drops) (length missing))) × (i ≤ n) × (length out ≡ length out₀) × (out ≡ over (take i (slopes step out₀ (map dropOr0 (entriesOf drops missing)))) out₀)
+Inv-loop out₀ step drops missing n i₀ out i =
+    (n ≡ min (length out₀) (min (length drops) (length missing))) × (i ≤ n) × (length out ≡ length out₀)
+    × (out ≡ over (take i (slopes step out₀ (map dropOr0 (entriesOf drops missing)))) out₀)
 
 abbrev μ-loop : tie.MeasureT-loop
 μ-loop out₀ step drops missing n i₀ out i = n - i
@@ -84,8 +89,13 @@ loop-again : tie.Need-loop-again Inv-loop μ-loop
 loop-again c =
     let l = c .before .before .before .before .before .before in
     let a = l .before .before .before .before .before .args in
-    let v = l .loop .inv in
-    (v .0, omega arith, length-set (l .loop .out) (l .loop .i) (c .slope-of .result) ∙ v .2, rw (add-one, c .slope-of .ensures, c .before .drop-or-0 .ensures, v .3) (one-more (a .step) (a .drops .now) (a .missing .now) (a .out .now) (l .loop .i) (omega arith) (omega arith) (omega arith)))
+    let v = l .loop .inv in (
+      v .0,
+      omega arith,
+      length-set (l .loop .out) (l .loop .i) (c .slope-of .result) ∙ v .2,
+      rw (add-one, c .slope-of .ensures, c .before .drop-or-0 .ensures, v .3)
+          (one-more (a .step) (a .drops .now) (a .missing .now) (a .out .now) (l .loop .i) (omega arith) (omega arith) (omega arith)),
+    )
 
 same-length : tie.Need-same-length Inv-loop μ-loop
 same-length c = c .before .loop .inv .2
@@ -96,7 +106,8 @@ returns c =
     let v = c .before .loop .inv in
     let e = drops-length (a .drops .now) (a .missing .now) in
     let f = zip-length (slope (a .step)) (a .out .now) (map dropOr0 (entriesOf (a .drops .now) (a .missing .now))) in
-    v .3 ∙ over-all (slopes (a .step) (a .out .now) (map dropOr0 (entriesOf (a .drops .now) (a .missing .now)))) (a .out .now) (c .before .loop .i) (omega arith)
+    v .3
+    ∙ over-all (slopes (a .step) (a .out .now) (map dropOr0 (entriesOf (a .drops .now) (a .missing .now)))) (a .out .now) (c .before .loop .i) (omega arith)
 
 pub lay-slopes-spec : {M : Type 1} → statement M
 lay-slopes-spec =

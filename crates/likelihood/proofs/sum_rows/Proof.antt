@@ -14,7 +14,7 @@ use Rattle.definition.specs.declared.Point.{Point}
 use Rattle.definition.specs.declared.Row.{Row}
 use Rattle.definition.specs.declared.Sums.{Sums}
 use Rattle.definition.specs.Meaning.{observationOf, observationsOf}
-use Rattle.likelihood.specs.Laws.{fold-suc, fold-all, zip3-at, zip3-shortest, zip3-within}
+use Rattle.likelihood.proofs.Laws.{fold-suc, fold-all, zip3-at, zip3-shortest, zip3-within}
 use Rattle.likelihood.proofs.sum_rows.Statement.{statement}
 use Rattle.likelihood.proofs.sum_rows.Tie as tie
 
@@ -23,7 +23,8 @@ module _ (p : Point) (rs ds ss ps ms bs : List Float) (i : ℕ) where
   upTo k = foldPairs (withRow p) noSums (take k (observationsOf rs ds ss)) (take k (zipWith3 rowOf ps ms bs))
 
   one-more : i < length (observationsOf rs ds ss) → i < length (zipWith3 rowOf ps ms bs)
-      → withRow p (upTo i) (observationOf (getD rs i nan) (getD ds i nan) (getD ss i nan)) (rowOf (getD ps i nan) (getD ms i nan) (getD bs i nan)) ≡ upTo (suc i)
+      → withRow p (upTo i) (observationOf (getD rs i nan) (getD ds i nan) (getD ss i nan)) (rowOf (getD ps i nan) (getD ms i nan) (getD bs i nan))
+      ≡ upTo (suc i)
   one-more g h =
       let w = zip3-within observationOf rs ds ss in
       let x = zip3-within rowOf ps ms bs in
@@ -36,7 +37,10 @@ module _ (p : Point) (rs ds ss ps ms bs : List Float) (i : ℕ) where
       ∙ ap (λ (o : Row). withRow p (upTo i) shot o) (zip3-at rowOf ps ms bs i r nan nan nan (omega arith) (omega arith) (omega arith)))
 
 abbrev Inv-loop : tie.InvT-loop
-Inv-loop p ranges drops sigmas predicted by-mv by-bc shots rows n sums₀ i₀ sums i = (n ≡ min (length (observationsOf ranges drops sigmas)) (length (zipWith3 rowOf predicted by-mv by-bc))) × (n ≤ length drops) × (n ≤ length sigmas) × (n ≤ length predicted) × (n ≤ length by-mv) × (n ≤ length by-bc) × (i ≤ n) × (sums ≡ foldPairs (withRow p) noSums (take i (observationsOf ranges drops sigmas)) (take i (zipWith3 rowOf predicted by-mv by-bc)))
+Inv-loop p ranges drops sigmas predicted by-mv by-bc shots rows n sums₀ i₀ sums i =
+    (n ≡ min (length (observationsOf ranges drops sigmas)) (length (zipWith3 rowOf predicted by-mv by-bc))) × (n ≤ length drops) × (n ≤ length sigmas)
+    × (n ≤ length predicted) × (n ≤ length by-mv) × (n ≤ length by-bc) × (i ≤ n)
+    × (sums ≡ foldPairs (withRow p) noSums (take i (observationsOf ranges drops sigmas)) (take i (zipWith3 rowOf predicted by-mv by-bc)))
 
 abbrev μ-loop : tie.MeasureT-loop
 μ-loop p ranges drops sigmas predicted by-mv by-bc shots rows n sums₀ i₀ sums i = n - i
@@ -104,15 +108,27 @@ loop-again : tie.Need-loop-again Inv-loop μ-loop
 loop-again c =
     let l = c .before .before .before .before .before .before .before in
     let a = l .before .before .before .before .before .before .before .before .before .before .args in
-    let v = l .loop .inv in
-    (v .0, v .1, v .2, v .3, v .4, v .5, omega arith, rw (c .accumulate .ensures, add-one, v .7) (one-more (a .p) (a .ranges .now) (a .drops .now) (a .sigmas .now) (a .predicted .now) (a .by-mv .now) (a .by-bc .now) (l .loop .i) (omega arith) (omega arith)))
+    let v = l .loop .inv in (
+      v .0,
+      v .1,
+      v .2,
+      v .3,
+      v .4,
+      v .5,
+      omega arith,
+      rw (c .accumulate .ensures, add-one, v .7)
+          (one-more (a .p) (a .ranges .now) (a .drops .now) (a .sigmas .now) (a .predicted .now) (a .by-mv .now) (a .by-bc .now) (l .loop .i)
+          (omega arith) (omega arith)),
+    )
 
 returns : tie.Need-returns Inv-loop μ-loop
 unfolding sumsOf
 returns c =
     let a = c .before .before .before .before .before .before .before .before .before .before .before .args in
     let v = c .before .loop .inv in
-    v .7 ∙ fold-all (withRow (a .p)) noSums (observationsOf (a .ranges .now) (a .drops .now) (a .sigmas .now)) (zipWith3 rowOf (a .predicted .now) (a .by-mv .now) (a .by-bc .now)) (c .before .loop .i) (omega arith)
+    v .7
+    ∙ fold-all (withRow (a .p)) noSums (observationsOf (a .ranges .now) (a .drops .now) (a .sigmas .now))
+    (zipWith3 rowOf (a .predicted .now) (a .by-mv .now) (a .by-bc .now)) (c .before .loop .i) (omega arith)
 
 pub sum-rows-spec : {M : Type 1} → statement M
 sum-rows-spec =

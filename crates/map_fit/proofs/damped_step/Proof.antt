@@ -18,14 +18,25 @@ is-unfit-requires c κs = search needs
 
 returns : tie.Need-returns
 unfolding stepOf
-returns c = simp (← c .before .before .before .before .damped .ensures, ← c .before .before .before .damped2 .ensures, ← c .before .before .determinant .ensures, ← c .before .is-unfit .ensures, c .if1 .taken)
+returns c =
+    let c1 = c .before .before .before in
+    simp (← c1 .before .damped .ensures, ← c1 .damped2 .ensures, ← c .before .before .determinant .ensures, ← c .before .is-unfit .ensures, c .if1 .taken)
 
 stepped-requires : tie.Need-stepped-requires
 stepped-requires c κs = search needs
 
 returns-2 : tie.Need-returns-2
 unfolding stepOf
-returns-2 c = simp (← c .before .before .before .before .before .damped .ensures, ← c .before .before .before .before .damped2 .ensures, ← c .before .before .before .determinant .ensures, ← c .before .before .is-unfit .ensures, c .before .if1 .left, ← c .stepped .ensures)
+returns-2 c =
+    let c1 = c .before .before .before in
+    simp (
+      ← c1 .before .before .damped .ensures,
+      ← c1 .before .damped2 .ensures,
+      ← c1 .determinant .ensures,
+      ← c .before .before .is-unfit .ensures,
+      c .before .if1 .left,
+      ← c .stepped .ensures,
+    )
 
 pub damped-step-spec : {M : Type 1} → statement M
 damped-step-spec = tie.close (tie.spec damped-requires damped-requires-2 determinant-requires is-unfit-requires returns stepped-requires returns-2)

@@ -47,7 +47,8 @@ loop-again c =
     let a = c .before .before .before .before .before .before .args in
     let l = c .before .before .before .before .before .loop in
     let e : l .left-now ≡ suc (l .left-now - 1) = omega arith in
-    trial-unfit (a .p) (a .e) (l .damping-now) e (c .before .before .before .damped-step .ensures) (c .before .enum-told .given .1) (c .raised-far .ensures) ∙ l .inv
+    trial-unfit (a .p) (a .e) (l .damping-now) e (c .before .before .before .damped-step .ensures) (c .before .enum-told .given .1) (c .raised-far .ensures)
+    ∙ l .inv
 
 returns-2 : tie.Need-returns-2 Inv-loop μ-loop
 returns-2 c =

@@ -1,4 +1,5 @@
--- `abs` meets its contract, by the laws of its two tests. That a zero is written in one way only comes from the parameter's own fact, that it fits a double. Assumes nothing.
+-- `abs` meets its contract, by the laws of its two tests. That a zero is written in one way only comes from the parameter's own fact, that it fits a
+-- double. Assumes nothing.
 use Rattle.numeric.proofs.Laws.{abs-below, abs-level, abs-other}
 use Rattle.numeric.proofs.abs.Statement.{statement}
 use Rattle.numeric.proofs.abs.Tie as tie

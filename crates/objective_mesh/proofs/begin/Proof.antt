@@ -21,13 +21,17 @@ ungained-requires c κs = search needs
 
 returns : tie.Need-returns
 returns c =
-    let a = c .before .before .before .before .before .args in
-    begin-moved (a .axis) (a .radius) (a .smaller) (a .centre) (a .current) (a .evaluations) (c .before .before .before .before .look .ensures) (c .before .before .found .given .1) (c .pass-at .ensures)
+    let c1 = c .before .before .before .before in
+    let a = c1 .before .args in
+    begin-moved (a .axis) (a .radius) (a .smaller) (a .centre) (a .current) (a .evaluations) (c1 .look .ensures) (c .before .before .found .given .1)
+    (c .pass-at .ensures)
 
 returns-2 : tie.Need-returns-2
 returns-2 c =
-    let a = c .before .before .before .before .args in
-    begin-none (a .axis) (a .radius) (a .smaller) (a .centre) (a .current) (a .evaluations) (c .before .before .before .look .ensures) (c .before .enum-told .given .1) (c .ungained .ensures)
+    let c1 = c .before .before .before in
+    let a = c1 .before .args in
+    begin-none (a .axis) (a .radius) (a .smaller) (a .centre) (a .current) (a .evaluations) (c1 .look .ensures) (c .before .enum-told .given .1)
+    (c .ungained .ensures)
 
 pub begin-spec : {M : Type 1} → statement M
 begin-spec = tie.close (tie.spec look-requires enum-known-found pass-at-requires enum-told ungained-requires returns returns-2)

@@ -34,7 +34,10 @@ returns-8 c =
     let n = c .before .match .rest in
     sym
     (direction-last (a .axis) j
-    (past 6 j (past 5 j (past 4 j (past 3 j (past 2 j (past 1 j (past 0 j (omega arith) (n .0 .0 .0 .0 .0 .0 .1)) (n .0 .0 .0 .0 .0 .1)) (n .0 .0 .0 .0 .1)) (n .0 .0 .0 .1)) (n .0 .0 .1)) (n .0 .1)) (n .1)))
+    (past 6 j
+    (past 5 j
+    (past 4 j (past 3 j (past 2 j (past 1 j (past 0 j (omega arith) (n .0 .0 .0 .0 .0 .0 .1)) (n .0 .0 .0 .0 .0 .1)) (n .0 .0 .0 .0 .1)) (n .0 .0 .0 .1))
+    (n .0 .0 .1)) (n .0 .1)) (n .1)))
 
 pub direction-at-spec : {M : Type 1} → statement M
 direction-at-spec = tie.close (tie.spec returns returns-2 returns-3 returns-4 returns-5 returns-6 returns-7 returns-8)

@@ -12,13 +12,17 @@ begin-requires : tie.Need-begin-requires
 begin-requires c κs = search needs
 
 returns : tie.Need-returns
-returns c = judged-gained (passOf (c .before .before .before .before .before .before .args .s)) (c .before .before .objective-improvement-is-material .ensures) (c .before .if1 .taken) (c .begin .ensures)
+returns c =
+    let c1 = c .before .before .before .before .before .before in
+    judged-gained (passOf (c1 .args .s)) (c .before .before .objective-improvement-is-material .ensures) (c .before .if1 .taken) (c .begin .ensures)
 
 ungained-requires : tie.Need-ungained-requires
 ungained-requires c κs = search needs
 
 returns-2 : tie.Need-returns-2
-returns-2 c = judged-ungained (passOf (c .before .before .before .before .before .before .args .s)) (c .before .before .objective-improvement-is-material .ensures) (c .before .if1 .left) (c .ungained .ensures)
+returns-2 c =
+    let c1 = c .before .before .before .before .before .before in
+    judged-ungained (passOf (c1 .args .s)) (c .before .before .objective-improvement-is-material .ensures) (c .before .if1 .left) (c .ungained .ensures)
 
 pub judged-spec : {M : Type 1} → statement M
 judged-spec = tie.close (tie.spec objective-improvement-is-material-requires begin-requires returns ungained-requires returns-2)

@@ -36,7 +36,9 @@ returns : tie.Need-returns Inv-loop μ-loop
 returns c =
     let a = c .before .before .before .before .before .before .args in
     let l = c .before .before .before .before .before .loop in
-    look-moved (a .radius) (a .centre) (a .axis) (l .j) (search needs) (c .before .before .before .direction-at .ensures) (c .before .before .candidate .ensures) (c .before .is-unmoved .ensures) (c .if1 .taken) ∙ l .inv
+    look-moved (a .radius) (a .centre) (a .axis) (l .j) (search needs) (c .before .before .before .direction-at .ensures)
+    (c .before .before .candidate .ensures) (c .before .is-unmoved .ensures) (c .if1 .taken)
+    ∙ l .inv
 
 loop-less : tie.Need-loop-less Inv-loop μ-loop
 loop-less c = search needs
@@ -45,7 +47,9 @@ loop-again : tie.Need-loop-again Inv-loop μ-loop
 loop-again c =
     let a = c .before .before .before .before .before .before .args in
     let l = c .before .before .before .before .before .loop in
-    look-unmoved (a .radius) (a .centre) (a .axis) (l .j) (search needs) (c .before .before .before .direction-at .ensures) (c .before .before .candidate .ensures) (c .before .is-unmoved .ensures) (c .if1 .left) ∙ l .inv
+    look-unmoved (a .radius) (a .centre) (a .axis) (l .j) (search needs) (c .before .before .before .direction-at .ensures)
+    (c .before .before .candidate .ensures) (c .before .is-unmoved .ensures) (c .if1 .left)
+    ∙ l .inv
 
 returns-2 : tie.Need-returns-2 Inv-loop μ-loop
 returns-2 c =

@@ -19,11 +19,15 @@ judged-requires c κs = search needs
 
 returns : tie.Need-returns
 returns c =
-    turn-moved (passOf (c .before .before .before .before .before .before .before .before .before .args .s)) (c .before .before .before .before .before .before .look .ensures) (c .before .before .before .before .found .given .1)
+    let c1 = c .before .before .before .before in
+    let c2 = c1 .before .before .before .before .before in
+    turn-moved (passOf (c2 .args .s)) (c1 .before .before .look .ensures) (c1 .found .given .1)
 
 returns-2 : tie.Need-returns-2
 returns-2 c =
-    turn-none (passOf (c .before .before .before .before .before .before .args .s)) (c .before .before .before .look .ensures) (c .before .enum-told .given .1) (c .judged .ensures)
+    let c1 = c .before .before .before in
+    let c2 = c1 .before .before .before in
+    turn-none (passOf (c2 .args .s)) (c1 .look .ensures) (c .before .enum-told .given .1) (c .judged .ensures)
 
 pub next-turn-spec : {M : Type 1} → statement M
 next-turn-spec = tie.close (tie.spec look-requires enum-known-found enum-told judged-requires returns returns-2)

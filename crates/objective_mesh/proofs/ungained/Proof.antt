@@ -40,7 +40,10 @@ returns c =
     let a = c .before .before .before .before .before .before .before .before .args in
     let l = c .before .before .before .before .before .before .before .loop in
     let e : l .left ≡ suc (l .left - 1) = omega arith in
-    ungained-moved (a .axis) (l .radius-now) (a .centre) (a .current) (l .best-now) (a .evaluations) e (c .before .before .before .before .before .quartered .ensures) (c .before .before .before .before .look .ensures) (c .before .before .found .given .1) (c .pass-at .ensures) ∙ l .inv
+    ungained-moved (a .axis) (l .radius-now) (a .centre) (a .current) (l .best-now) (a .evaluations) e
+    (c .before .before .before .before .before .quartered .ensures) (c .before .before .before .before .look .ensures) (c .before .before .found .given .1)
+    (c .pass-at .ensures)
+    ∙ l .inv
 
 enum-told : tie.Need-enum-told Inv-loop μ-loop
 enum-told c = search needs
@@ -53,7 +56,9 @@ loop-again c =
     let a = c .before .before .before .before .before .before .args in
     let l = c .before .before .before .before .before .loop in
     let e : l .left ≡ suc (l .left - 1) = omega arith in
-    ungained-none (a .axis) (l .radius-now) (a .centre) (a .current) (l .best-now) (a .evaluations) e (c .before .before .before .quartered .ensures) (c .before .before .look .ensures) (c .enum-told .given .1) ∙ l .inv
+    ungained-none (a .axis) (l .radius-now) (a .centre) (a .current) (l .best-now) (a .evaluations) e (c .before .before .before .quartered .ensures)
+    (c .before .before .look .ensures) (c .enum-told .given .1)
+    ∙ l .inv
 
 searched-requires : tie.Need-searched-requires Inv-loop μ-loop
 searched-requires c κs = search needs

@@ -9,7 +9,7 @@ use lib.ListN.{length, take, getD, length-set, length-take}
 use lib.Ieee.{Float, nan}
 use Rattle.definition.specs.Lists.{insertAt}
 use Rattle.likelihood.specs.Arrays.{over}
-use Rattle.likelihood.specs.Laws.{over-suc, over-past}
+use Rattle.likelihood.proofs.Laws.{over-suc, over-past}
 use Rattle.places.proofs.Laws.{insert-length, insert-start, insert-at, insert-past, insert-take, inserted-is, inserted-beyond, inserted-full}
 use Rattle.places.proofs.inserted.Statement.{statement}
 use Rattle.places.proofs.inserted.Tie as tie

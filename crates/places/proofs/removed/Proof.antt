@@ -9,7 +9,7 @@ use lib.ListN.{length, take, getD, set, length-set, length-take}
 use lib.Ieee.{Float, nan}
 use Rattle.definition.specs.Lists.{removeAt}
 use Rattle.likelihood.specs.Arrays.{over}
-use Rattle.likelihood.specs.Laws.{over-suc, over-past}
+use Rattle.likelihood.proofs.Laws.{over-suc, over-past}
 use Rattle.places.proofs.Laws.{remove-length, remove-start, remove-past, remove-take, removed-is, removed-beyond, removed-full}
 use Rattle.places.proofs.removed.Statement.{statement}
 use Rattle.places.proofs.removed.Tie as tie
@@ -65,7 +65,8 @@ loop-again c =
     let shorter = removeAt (args .i) old in
     let m = remove-length old (args .i) (omega arith) in
     let t = length-take to shorter in
-    let moved : getD (over (take to shorter) old) (suc to) nan ≡ getD shorter to nan = over-past (take to shorter) old (suc to) nan (omega arith) ∙ sym (remove-past old (args .i) to nan (omega arith)) in (
+    let moved : getD (over (take to shorter) old) (suc to) nan ≡ getD shorter to nan =
+    over-past (take to shorter) old (suc to) nan (omega arith) ∙ sym (remove-past old (args .i) to nan (omega arith)) in (
       omega arith,
       omega arith,
       h .2,

@@ -15,7 +15,9 @@ in-unit-requires c κs = search needs
 
 returns : tie.Need-returns
 unfolding entryAt
-returns c = simp (← c .before .before .before .before .is-sane .ensures, c .before .before .before .if1 .taken, ← c .before .fly .ensures, ← c .in-unit .ensures)
+returns c =
+    let c1 = c .before .before .before in
+    simp (← c1 .before .is-sane .ensures, c1 .if1 .taken, ← c .before .fly .ensures, ← c .in-unit .ensures)
 
 returns-2 : tie.Need-returns-2
 unfolding entryAt

@@ -84,7 +84,8 @@ loop-again c =
       omega arith,
       length-set (l .loop .drops) (l .loop .i) (c .before .drop-or-0 .result) ∙ v .2,
       length-set (l .loop .missing) (l .loop .i) (c .is-missing .result) ∙ v .3,
-      rw (add-one, v .4, c .before .drop-or-0 .ensures, e) (one-more g dropOr0 (a .distances .now) (a .drops .now) (l .loop .i) nan (omega arith) (omega arith)),
+      rw (add-one, v .4, c .before .drop-or-0 .ensures, e)
+          (one-more g dropOr0 (a .distances .now) (a .drops .now) (l .loop .i) nan (omega arith) (omega arith)),
       rw (add-one, v .5, c .is-missing .ensures, e) (one-more g isMissing (a .distances .now) (a .missing .now) (l .loop .i) nan (omega arith) (omega arith)),
     )
 

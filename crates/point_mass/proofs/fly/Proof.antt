@@ -1,4 +1,5 @@
--- `fly` meets its contract. The invariant: what is left of the steps, from where the bullet is, comes to what all of them come to from the start. Assumes nothing.
+-- `fly` meets its contract. The invariant: what is left of the steps, from where the bullet is, comes to what all of them come to from the start. Assumes
+-- nothing.
 use Prim.Native.Nat.{ℕ, zero, suc, _<_, _-_}
 use mathlib.Core.Path.{_≡_, refl, sym, ap, _∙_}
 use mathlib.Core.Bool.{cond}
@@ -15,7 +16,8 @@ use Rattle.point_mass.proofs.fly.Tie as tie
 -- one step of those that are left
 one-step :
     (n : ℕ) (k x : Float) (s t : Flight) → 0 < n → t ≡ stepOf k s
-    → flight n k x s ≡ cond (lt (s .vx) (ofBits binary64 0x4049_0000_0000_0000)) run.missing (cond (le x (t .x)) (run.drop (onLine s t x)) (flight (n - 1) k x t))
+    → flight n k x s
+    ≡ cond (lt (s .vx) (ofBits binary64 0x4049_0000_0000_0000)) run.missing (cond (le x (t .x)) (run.drop (onLine s t x)) (flight (n - 1) k x t))
 unfolding flight
 one-step zero k x s t h e = absurd (not-suc-le-zero h)
 one-step (suc n) k x s t h e = let m : suc n - 1 ≡ n = omega arith in rw (e, m)

@@ -1,5 +1,5 @@
-use Rattle.editing.specs.Meaning.{Opened}
-use Rattle.session.specs.Opening.{openingOf}
+use Rattle.editing.proofs.Contracts.{Opened}
+use Rattle.opening.specs.Opening.{openingOf}
 use Rattle.definition.specs.Request.{Opening}
 use mathlib.Core.Path.{subst}
 use borrow.Author.Needs.{needs}
@@ -29,15 +29,21 @@ open-requires c κs = search needs
 
 returns : tie.Need-returns
 returns c =
-    let r = c .before .before .before .before .before .before .before .before .before .before .before .before .before .before .before .before .before .before .before .before .before .before .args .t1 in
+    let c1 = c .before .before .before .before in
+    let c2 = c1 .before .before .before in
+    let c3 = c2 .before .before .before in
+    let c4 = c3 .before .before .before in
+    let c5 = c4 .before .before .before in
+    let c6 = c5 .before .before .before .before .before .before in
+    let r = c6 .args .t1 in
     subst (λ (o : Opening). Opened o (c .«open» .result))
     (λ i. openingOf (r .entered)
-    (c .before .before .before .before .before .before .before .before .before .before .before .before .before .before .before .before .first-places .ensures i)
-    (c .before .before .before .before .before .before .before .before .before .before .before .before .before .first-places2 .ensures i)
-    (c .before .before .before .before .before .before .before .before .before .before .first-places3 .ensures i)
+    (c5 .first-places .ensures i)
+    (c4 .first-places2 .ensures i)
+    (c3 .first-places3 .ensures i)
     (r .priors)
-    (c .before .before .before .before .before .before .before .first-places4 .ensures i)
-    (c .before .before .before .before .first-places5 .ensures i)
+    (c2 .first-places4 .ensures i)
+    (c1 .first-places5 .ensures i)
     (c .before .first-flags .ensures i))
     (c .«open» .ensures)
 

@@ -26,7 +26,9 @@ add-t10 : tie.Need-add-t10
 add-t10 c = search needs
 
 returns-2 : tie.Need-returns-2
-returns-2 c = λ o k. let a = c .before .before .before .before .before .before .before .before .before .args in distance-more (a .r) o k (a .range) (a .sigma) (a .is-given) (c .before .before .before .before .before .before .before .before .if1 .left)
+returns-2 c =
+    let c1 = c .before .before .before .before .before .before .before .before in
+    λ o k. let a = c1 .before .args in distance-more (a .r) o k (a .range) (a .sigma) (a .is-given) (c1 .if1 .left)
 
 pub with-distance-spec : {M : Type 1} → statement M
 with-distance-spec = tie.close (tie.spec returns mul-distances array-write-distances mul-future array-write-future array-write-given add-t10 returns-2)

@@ -29,7 +29,9 @@ add-t10 : tie.Need-add-t10
 add-t10 c = search needs
 
 returns-2 : tie.Need-returns-2
-returns-2 c = λ o k. let a = c .before .before .before .before .before .before .before .before .before .args in shot-more (a .r) o k (a .range) (a .drop) (a .sigma) (c .before .before .before .before .before .before .before .before .if1 .left)
+returns-2 c =
+    let c1 = c .before .before .before .before .before .before .before .before in
+    λ o k. let a = c1 .before .args in shot-more (a .r) o k (a .range) (a .drop) (a .sigma) (c1 .if1 .left)
 
 pub with-shot-spec : {M : Type 1} → statement M
 with-shot-spec = tie.close (tie.spec returns mul-ranges array-write-ranges mul-drops array-write-drops mul-sigmas array-write-sigmas add-t10 returns-2)

@@ -21,10 +21,16 @@ with-distance-requires-2 : tie.Need-with-distance-requires-2
 with-distance-requires-2 c κs = search needs
 
 returns : tie.Need-returns
-returns c = λ o k. subst (λ (s : Sigma). Keeps (c .with-distance .result) (withDistance o (requestedAt (c .before .before .before .args .range) (sigmaSays s)))) (sym (c .before .enum-told .given .1)) (c .with-distance .ensures o k)
+returns c =
+    let c1 = c .before .before .before in
+    λ o k. subst (λ (s : Sigma). Keeps (c .with-distance .result) (withDistance o (requestedAt (c1 .args .range) (sigmaSays s))))
+    (sym (c .before .enum-told .given .1)) (c .with-distance .ensures o k)
 
 returns-2 : tie.Need-returns-2
-returns-2 c = λ o k. subst (λ (s : Sigma). Keeps (c .with-distance2 .result) (withDistance o (requestedAt (c .before .before .before .before .args .range) (sigmaSays s)))) (sym (c .before .before .sigma .given .1)) (c .with-distance2 .ensures o k)
+returns-2 c =
+    let c1 = c .before .before .before .before in
+    λ o k. subst (λ (s : Sigma). Keeps (c .with-distance2 .result) (withDistance o (requestedAt (c1 .args .range) (sigmaSays s))))
+    (sym (c .before .before .sigma .given .1)) (c .with-distance2 .ensures o k)
 
 pub with-wanted-spec : {M : Type 1} → statement M
 with-wanted-spec =

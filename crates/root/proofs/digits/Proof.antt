@@ -1,5 +1,5 @@
--- `root::digits` meets its contract. With p the weight of the last digit, the invariant is 2 * q * q + r * p ≡ 2 * m * 2 ^ 52, with r too small for another digit there.
--- The measure is the digits that are left. Assumes nothing.
+-- `root::digits` meets its contract. With p the weight of the last digit, the invariant is 2 * q * q + r * p ≡ 2 * m * 2 ^ 52, with r too small for another
+-- digit there. The measure is the digits that are left. Assumes nothing.
 use mathlib.Core.Path.{_≡_, refl, sym, ap, _∙_}
 use mathlib.Core.Logic.{⊎-elim}
 use Prim.Native.Nat.{ℕ, zero, suc, _+_, _-_, _*_, _/_, _^_, _≤_, _<_}

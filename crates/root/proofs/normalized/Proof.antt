@@ -1,5 +1,5 @@
--- `root::normalized` meets its contract. The loop keeps m * 2 ^ e, and m is at least 2 to the number of its turns, so that e stays above 1022. The measure is e.
--- Assumes nothing.
+-- `root::normalized` meets its contract. The loop keeps m * 2 ^ e, and m is at least 2 to the number of its turns, so that e stays above 1022. The measure
+-- is e. Assumes nothing.
 use mathlib.Core.Path.{_≡_, refl, ap, _∙_}
 use Prim.Native.Nat.{ℕ, suc, _-_, _*_, _^_, _≤_, _<_}
 use native.Mathlib.Nat.{pow-succ', mul-le-mul-left, lt-of-le-of-lt}

@@ -20,7 +20,9 @@ build-approximation-requires c κs = search needs
 
 returns-3 : tie.Need-returns-3
 unfolding approximationOf
-returns-3 c = simp (← c .before .before .before .parameter-at-bound .ensures, c .before .before .if1 .left, c .before .if2 .left, ← c .build-approximation .ensures)
+returns-3 c =
+    let c1 = c .before .before .before in
+    simp (← c1 .parameter-at-bound .ensures, c .before .before .if1 .left, c .before .if2 .left, ← c .build-approximation .ensures)
 
 pub approximation-spec : {M : Type 1} → statement M
 approximation-spec = tie.close (tie.spec parameter-at-bound-requires returns returns-2 build-approximation-requires returns-3)

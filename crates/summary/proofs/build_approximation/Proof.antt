@@ -32,4 +32,5 @@ unfolding buildApproximationOf
 returns-3 c = simp (← c .before .before .before .before .inverse-with-condition .ensures, c .before .before .inverted .given .1, ← c .with-covariance .ensures)
 
 pub build-approximation-spec : {M : Type 1} → statement M
-build-approximation-spec = tie.close (tie.spec inverse-with-condition-requires enum-told enum-told-2 enum-known-inverted with-covariance-requires returns returns-2 returns-3)
+build-approximation-spec =
+    tie.close (tie.spec inverse-with-condition-requires enum-told enum-told-2 enum-known-inverted with-covariance-requires returns returns-2 returns-3)

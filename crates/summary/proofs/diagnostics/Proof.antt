@@ -79,4 +79,6 @@ returns c =
     (c .before .poll-improvement .ensures)
 
 pub diagnostics-spec : {M : Type 1} → statement M
-diagnostics-spec = tie.close (tie.spec effective-parameter-count-requires degrees-of-freedom-requires reduced-chi-square-requires gradient-norm-requires convergence-criterion-requires poll-radius-requires poll-improvement-requires returns)
+diagnostics-spec =
+    tie.close (tie.spec effective-parameter-count-requires degrees-of-freedom-requires reduced-chi-square-requires gradient-norm-requires
+    convergence-criterion-requires poll-radius-requires poll-improvement-requires returns)

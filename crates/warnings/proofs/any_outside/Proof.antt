@@ -8,7 +8,7 @@ use lib.ListN.{length, drop}
 use lib.Seq.{drop-cons}
 use lib.Ieee.{nan}
 use Rattle.definition.specs.Lists.{any}
-use Rattle.definition.specs.Reading.{rest-none, any-here, any-next, any-none}
+use Rattle.definition.proofs.Reading.{rest-none, any-here, any-next, any-none}
 use Rattle.warnings.specs.Warnings.{outsideOf}
 use Rattle.warnings.proofs.any_outside.Statement.{statement}
 use Rattle.warnings.proofs.any_outside.Tie as tie

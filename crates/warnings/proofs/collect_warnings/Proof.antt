@@ -20,7 +20,8 @@ module _ (v : Convergence) (e : Evaluation) (q : TruingPriorsV1) (a : Approximat
       → verified ≡ converged v → mesh ≡ isMesh v → ill ≡ illConditionedOf (e .«data_condition_number»)
       → mv ≡ mvDominatedOf (q .«muzzle_velocity_fps») a → bc ≡ bcDominatedOf (q .«ballistic_coefficient») a
       → unavailable ≡ isUnavailable a → crosses ≡ intervalCrossesOf a → low ≡ atMostOne dof
-      → codes (not verified) mesh (lt (e .«bc_sensitivity_ratio») leastSensitivityRatio) ill mv bc unavailable crosses low outside ≡ warningsBy v e q a dof outside
+      → codes (not verified) mesh (lt (e .«bc_sensitivity_ratio») leastSensitivityRatio) ill mv bc unavailable crosses low outside
+      ≡ warningsBy v e q a dof outside
   unfolding warningsBy
   made h1 h2 h3 h4 h5 h6 h7 h8 = simp (← h1, ← h2, ← h3, ← h4, ← h5, ← h6, ← h7, ← h8)
 
@@ -62,4 +63,6 @@ returns c =
     (c .before .is-low .ensures)
 
 pub collect-warnings-spec : {M : Type 1} → statement M
-collect-warnings-spec = tie.close (tie.spec is-converged-requires is-mesh-requires is-ill-conditioned-requires mv-dominated-requires bc-dominated-requires is-unavailable-requires interval-crosses-requires is-low-requires returns)
+collect-warnings-spec =
+    tie.close (tie.spec is-converged-requires is-mesh-requires is-ill-conditioned-requires mv-dominated-requires bc-dominated-requires is-unavailable-requires
+    interval-crosses-requires is-low-requires returns)

@@ -7,7 +7,7 @@ use native.Mathlib.Omega.{arith}
 use borrow.Author.Needs.{needs}
 use lib.ListN.{length, drop}
 use lib.Ieee.{nan, neg}
-use Rattle.definition.specs.Reading.{fold-next, fold-end}
+use Rattle.definition.proofs.Reading.{fold-next, fold-end}
 use Rattle.definition.specs.Summary.{farther}
 use Rattle.warnings.specs.Warnings.{farthestOf}
 use Rattle.warnings.proofs.observed_max.Statement.{statement}

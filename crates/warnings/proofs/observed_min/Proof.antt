@@ -7,7 +7,7 @@ use native.Mathlib.Omega.{arith}
 use borrow.Author.Needs.{needs}
 use lib.ListN.{length, drop}
 use lib.Ieee.{nan}
-use Rattle.definition.specs.Reading.{fold-next, fold-end}
+use Rattle.definition.proofs.Reading.{fold-next, fold-end}
 use Rattle.definition.specs.Summary.{nearer}
 use Rattle.warnings.specs.Warnings.{nearestOf}
 use Rattle.warnings.proofs.observed_min.Statement.{statement}

@@ -6,7 +6,7 @@ use native.Mathlib.Omega.{arith}
 use borrow.Author.Needs.{needs}
 use lib.ListN.{length}
 use Rattle.words.specs.Words.{words, placeOf}
-use Rattle.words.specs.Rule.{low-none}
+use Rattle.words.proofs.Rule.{low-none}
 use Rattle.words.proofs.Rows.{ahead, ahead-all, ahead-here, ahead-on, ahead-none}
 use Rattle.words.proofs.find.Statement.{statement}
 use Rattle.words.proofs.find.Tie as tie

@@ -8,7 +8,7 @@ use lib.Dec.{eqb}
 use lib.ListN.{length, drop, getD}
 use Rattle.words.specs.Words.{wordAt}
 use Rattle.words.specs.Rows.{rowOf}
-use Rattle.words.specs.Rule.{same-length}
+use Rattle.words.proofs.Rule.{same-length}
 use Rattle.words.proofs.Rows.{rowIs, is-row, row-on, row-off, row-full, row-ends, row-32, word-short}
 use Rattle.words.proofs.is_word.Statement.{statement}
 use Rattle.words.proofs.is_word.Tie as tie
@@ -38,7 +38,10 @@ returns-2 c =
     let a = c .before .before .before .before .before .before .before .args in
     let l = c .before .before .before .before .loop in
     let h : l .i < length (rowOf (wordAt (a .k))) = omega (arith, row-32 (a .k)) in
-    sym (sym (is-row (a .s .now) (a .k)) ∙ l .inv .1 ∙ row-off (a .s .now) (rowOf (wordAt (a .k))) (l .i) (c .before .before .byte .result) (omega arith) h (c .before .before .byte .ensures) (c .if2 .taken))
+    sym (sym (is-row (a .s .now) (a .k))
+    ∙ l .inv .1
+    ∙ row-off (a .s .now) (rowOf (wordAt (a .k))) (l .i) (c .before .before .byte .result) (omega arith) h (c .before .before .byte .ensures)
+    (c .if2 .taken))
 
 add-i : tie.Need-add-i Inv-loop μ-loop
 add-i c = search needs
@@ -50,8 +53,13 @@ loop-again : tie.Need-loop-again Inv-loop μ-loop
 loop-again c =
     let a = c .before .before .before .before .before .before .before .args in
     let l = c .before .before .before .before .loop in
-    let h : l .i < length (rowOf (wordAt (a .k))) = omega (arith, row-32 (a .k)) in
-    (omega arith, rw add-one (l .inv .1 ∙ row-on (a .s .now) (rowOf (wordAt (a .k))) (l .i) (c .before .before .byte .result) (omega arith) h (c .before .before .byte .ensures) (c .if2 .left)))
+    let h : l .i < length (rowOf (wordAt (a .k))) = omega (arith, row-32 (a .k)) in (
+      omega arith,
+      rw add-one
+          (l .inv .1
+          ∙ row-on (a .s .now) (rowOf (wordAt (a .k))) (l .i) (c .before .before .byte .result) (omega arith) h (c .before .before .byte .ensures)
+          (c .if2 .left)),
+    )
 
 returns-3 : tie.Need-returns-3 Inv-loop μ-loop
 returns-3 c =

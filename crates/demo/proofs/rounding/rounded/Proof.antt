@@ -25,7 +25,15 @@ rem-t14 c = search needs
 
 returns : tie.Need-returns
 unfolding roundedOf
-returns c = simp (← c .before .before .before .before .abs .ensures, ← c .before .before .before .nearest-u64-to-f64 .ensures, c .before .before .if1 .taken, c .before .if2 .taken, ← c .truncating-f64-to-u64 .ensures)
+returns c =
+    let c1 = c .before .before .before in
+    simp (
+      ← c1 .before .abs .ensures,
+      ← c1 .nearest-u64-to-f64 .ensures,
+      c .before .before .if1 .taken,
+      c .before .if2 .taken,
+      ← c .truncating-f64-to-u64 .ensures,
+    )
 
 returns-2 : tie.Need-returns-2
 unfolding roundedOf

@@ -20,14 +20,25 @@ returns-2 c = simp (← c .before .before .before .is-finite .ensures, c .before
 
 returns-3 : tie.Need-returns-3
 unfolding intervalOf intervalWhere classificationOf
-returns-3 c = simp (← c .before .before .before .before .is-finite .ensures, c .before .before .before .if1 .left, ← c .before .before .is-finite2 .ensures, c .before .if2 .left, c .if3 .taken)
+returns-3 c =
+    let c1 = c .before .before .before in
+    simp (← c1 .before .is-finite .ensures, c1 .if1 .left, ← c .before .before .is-finite2 .ensures, c .before .if2 .left, c .if3 .taken)
 
 root-requires : tie.Need-root-requires
 root-requires c κs = search needs
 
 returns-4 : tie.Need-returns-4
 unfolding intervalOf intervalWhere classificationOf
-returns-4 c = simp (← c .before .before .before .before .before .is-finite .ensures, c .before .before .before .before .if1 .left, ← c .before .before .before .is-finite2 .ensures, c .before .before .if2 .left, c .before .if3 .left, ← c .root .ensures)
+returns-4 c =
+    let c1 = c .before .before .before in
+    simp (
+      ← c1 .before .before .is-finite .ensures,
+      c1 .before .if1 .left,
+      ← c1 .is-finite2 .ensures,
+      c .before .before .if2 .left,
+      c .before .if3 .left,
+      ← c .root .ensures,
+    )
 
 pub from-variance-spec : {M : Type 1} → statement M
 from-variance-spec = tie.close (tie.spec is-finite-requires returns is-finite-requires-2 returns-2 returns-3 root-requires returns-4)

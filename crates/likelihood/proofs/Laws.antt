@@ -16,7 +16,8 @@ use Rattle.definition.specs.declared.Point.{Point}
 use Rattle.definition.specs.declared.Row.{Row}
 use Rattle.definition.specs.Run.{missing, drop, isMissing, dropOr0}
 use Rattle.definition.specs.Meaning.{observationOf, observationsOf}
-use Rattle.likelihood.specs.Arrays.{shortestOf, entryOf, entriesOf, over}
+use Rattle.definition.specs.Session.{entryOf, entriesOf}
+use Rattle.likelihood.specs.Arrays.{shortestOf, over}
 
 -- ---- two lists read together
 
@@ -57,7 +58,8 @@ module _ {A B S : Type 0} (f : A → B → S) where
   zip-length (x ∷ xs) [] = omega arith
   zip-length (x ∷ xs) (y ∷ ys) = omega (arith, zip-length xs ys)
 
-  pub zip-at : (xs : List A) (ys : List B) (i : ℕ) (s : S) (d : A) (e : B) → i < length xs → i < length ys → getD (zipWith f xs ys) i s ≡ f (getD xs i d) (getD ys i e)
+  pub zip-at : (xs : List A) (ys : List B) (i : ℕ) (s : S) (d : A) (e : B) → i < length xs → i < length ys
+      → getD (zipWith f xs ys) i s ≡ f (getD xs i d) (getD ys i e)
   zip-at [] ys i s d e g h = absurd (not-suc-le-zero g)
   zip-at (x ∷ xs) [] i s d e g h = absurd (not-suc-le-zero h)
   zip-at (x ∷ xs) (y ∷ ys) zero s d e g h = refl
@@ -96,7 +98,8 @@ module _ {A B C D : Type 0} (f : A → B → C → D) where
   unfolding shortestOf
   zip3-shortest xs ys zs = zip3-length xs ys zs
 
-  pub zip3-within : (xs : List A) (ys : List B) (zs : List C) → (length (zipWith3 f xs ys zs) ≤ length xs) × (length (zipWith3 f xs ys zs) ≤ length ys) × (length (zipWith3 f xs ys zs) ≤ length zs)
+  pub zip3-within : (xs : List A) (ys : List B) (zs : List C)
+      → (length (zipWith3 f xs ys zs) ≤ length xs) × (length (zipWith3 f xs ys zs) ≤ length ys) × (length (zipWith3 f xs ys zs) ≤ length zs)
   zip3-within xs ys zs = let e = zip3-length xs ys zs in (omega arith, omega arith, omega arith)
 
   pub zip3-at : (xs : List A) (ys : List B) (zs : List C) (i : ℕ) (q : D) (d : A) (e : B) (g : C) → i < length xs → i < length ys → i < length zs
@@ -116,7 +119,8 @@ module _ {A B C D : Type 0} (f : A → B → C → D) where
 
   -- one place more
   pub zip3-suc : (xs : List A) (ys : List B) (zs : List C) (i : ℕ) (d : A) (e : B) (g : C) → i < length xs → i < length ys → i < length zs
-      → zipWith3 f (take (suc i) xs) (take (suc i) ys) (take (suc i) zs) ≡ zipWith3 f (take i xs) (take i ys) (take i zs) ++ (f (getD xs i d) (getD ys i e) (getD zs i g) ∷ [])
+      → zipWith3 f (take (suc i) xs) (take (suc i) ys) (take (suc i) zs)
+      ≡ zipWith3 f (take i xs) (take i ys) (take i zs) ++ (f (getD xs i d) (getD ys i e) (getD zs i g) ∷ [])
   zip3-suc [] ys zs i d e g h k l = absurd (not-suc-le-zero h)
   zip3-suc (x ∷ xs) [] zs i d e g h k l = absurd (not-suc-le-zero k)
   zip3-suc (x ∷ xs) (y ∷ ys) [] i d e g h k l = absurd (not-suc-le-zero l)
@@ -183,7 +187,8 @@ module _ {A : Type 0} where
   over-all (x ∷ xs) (y ∷ ys) (suc i) h = ap (λ (r : List A). x ∷ r) (over-all xs ys i (omega arith))
 
 -- of an array that is zipped with a list of n, and the outcome laid over it: its first n places are the outcome
-pub over-zip : {A B : Type 0} (f : A → B → A) (xs : List A) (ys : List B) (n : ℕ) → length ys ≡ n → n ≤ length xs → take n (over (zipWith f xs ys) xs) ≡ zipWith f (take n xs) ys
+pub over-zip : {A B : Type 0} (f : A → B → A) (xs : List A) (ys : List B) (n : ℕ) → length ys ≡ n → n ≤ length xs
+    → take n (over (zipWith f xs ys) xs) ≡ zipWith f (take n xs) ys
 over-zip f xs ys n e h =
     let l = zip-length f xs ys in
     over-take (zipWith f xs ys) xs n (omega arith) h ∙ sym (zip-take-left f xs ys n (omega arith))
@@ -240,20 +245,15 @@ pub entries-drops : (ds : List Float) (ms : List Bool) → length ds ≡ length 
 entries-drops [] ms e z = refl
 entries-drops (d ∷ ds) [] e z = absurd (omega arith)
 entries-drops (d ∷ ds) (true ∷ ms) e z = absurd (omega arith)
-entries-drops (d ∷ ds) (false ∷ ms) e z = ap (λ (r : List Float). d ∷ r) (entries-drops ds ms (omega arith) (cond-none false (firstAt isMissing (entriesOf ds ms)) z .1))
+entries-drops (d ∷ ds) (false ∷ ms) e z =
+    ap (λ (r : List Float). d ∷ r) (entries-drops ds ms (omega arith) (cond-none false (firstAt isMissing (entriesOf ds ms)) z .1))
 
 pub drops-length : (ds : List Float) (ms : List Bool) → length (map dropOr0 (entriesOf ds ms)) ≡ min (length ds) (length ms)
 drops-length ds ms = length-map (entriesOf ds ms) dropOr0 ∙ entries-length ds ms
 
-pub drops-at : (ds : List Float) (ms : List Bool) (i : ℕ) → i < length ds → i < length ms → getD (map dropOr0 (entriesOf ds ms)) i nan ≡ dropOr0 (entryOf (getD ds i nan) (getD ms i false))
+pub drops-at : (ds : List Float) (ms : List Bool) (i : ℕ) → i < length ds → i < length ms
+    → getD (map dropOr0 (entriesOf ds ms)) i nan ≡ dropOr0 (entryOf (getD ds i nan) (getD ms i false))
 drops-at ds ms i g h = List·getD-map dropOr0 (entriesOf ds ms) i (drop nan) ∙ ap dropOr0 (zip-at entryOf ds ms i (drop nan) nan false g h)
-
--- a reply about one distance
-pub entries-one : (ds : List Float) (ms : List Bool) → length ds ≡ 1 → length ms ≡ 1 → entriesOf ds ms ≡ entryOf (getD ds 0 nan) (getD ms 0 false) ∷ []
-entries-one [] ms e g = absurd (omega arith)
-entries-one (d ∷ ds) [] e g = absurd (omega arith)
-entries-one (d ∷ []) (m ∷ ms) e g = refl
-entries-one (d ∷ d′ ∷ ds) (m ∷ ms) e g = absurd (omega arith)
 
 -- ---- the sums over arrays of which the first n places are in use
 

@@ -1,4 +1,4 @@
--- Laws of clamp that other crates cite. Assumes nothing.
+-- The order of doubles, and the range that clamp takes them to. Assumes nothing.
 use Prim.Native.Nat.{ℕ, _+_, _*_, _≤_}
 use mathlib.Core.Path.{_≡_, refl}
 use mathlib.Core.Bool.{Bool, true, false, cond, _||_}

@@ -17,7 +17,8 @@ use Rattle.definition.specs.declared.TruingPriorsV1.{TruingPriorsV1}
 use Rattle.definition.specs.declared.Evaluation.{Evaluation}
 use Rattle.definition.specs.declared.TruingUncertaintyWarningCodeV1.{TruingUncertaintyWarningCodeV1}
 use Rattle.definition.specs.declared.TruingUncertaintyWarningCodeV1.the-variants as Warning
-use Rattle.warnings.specs.Warnings.{codes, nearestOf, farthestOf, outsideOf, illConditionedOf, mvDominatedOf, bcDominatedOf, intervalCrossesOf, warningsBy}
+use Rattle.warnings.specs.Warnings.{codes, nearestOf, farthestOf, outsideOf, illConditionedOf, mvDominatedOf, bcDominatedOf, intervalCrossesOf}
+use Rattle.warnings.specs.Warnings.{warningsBy}
 
 -- the distances of observations that stand in three lists of one length
 pub observed-ranges : (r d s : List Float) → length d ≡ length r → length s ≡ length r → rangesOf (observationsOf r d s) ≡ r
@@ -42,7 +43,8 @@ pub outside-by : (obs : List Observation) (d : Requested) → isOutside obs d �
 unfolding outsideOf
 outside-by obs d = refl
 
-pub any-outside-by : (obs : List Observation) (ds : List Requested) → any (isOutside obs) ds ≡ any (outsideOf (observedMin obs) (observedMax obs)) (distancesOf ds)
+pub any-outside-by :
+    (obs : List Observation) (ds : List Requested) → any (isOutside obs) ds ≡ any (outsideOf (observedMin obs) (observedMax obs)) (distancesOf ds)
 unfolding outsideOf
 any-outside-by obs [] = refl
 any-outside-by obs (d ∷ ds) = ap (λ b. isOutside obs d || b) (any-outside-by obs ds)
