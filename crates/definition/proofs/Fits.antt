@@ -13,7 +13,8 @@ use Rattle.definition.specs.Constants.{leastRadius}
 use Rattle.definition.specs.Request.{Requested, Measured}
 use Rattle.definition.specs.Run.{Run, done, refuse, ask, bind}
 use Rattle.definition.specs.Likelihood.{Rows, objective, evaluate, evaluationOf}
-use Rattle.definition.specs.Mesh.{notConverged, Poll, Pass, Turn, evaluates, ended, Looked, moved, noneMoved, look, directions, onLook, ungained, begin, judged, turn, seen, stoppedAt, stopped, onTurn, poll, quarteredOf}
+use Rattle.definition.specs.Mesh.{notConverged, Poll, Pass, Turn, evaluates, ended, Looked, moved, noneMoved, look, directions, onLook, ungained}
+use Rattle.definition.specs.Mesh.{begin, judged, turn, seen, stoppedAt, stopped, onTurn, poll, quarteredOf}
 use Rattle.definition.specs.Fit.{Fit, Trial, accepted, exhausted, flatOf, trials, meshed, verified, verify, onTrial, evaluated, iterate, fitMap}
 use Rattle.definition.specs.Summary.{Finished}
 use Rattle.definition.specs.Whole.{checkedMeasured, checkedRequested, bandRows, baseline, concluded, banded, fitted, run, whole}
@@ -205,7 +206,8 @@ abbrev ShownFinished : Finished → Type 0
 ShownFinished c = Shown (c .fit .convergence) (c .fit .evaluations)
 
 module _ (m : Measured) (ds : List Requested) where
-  concluded-shown : (f : Fit) (e : Evaluation) (drops : List Float) (bands : Rows) → Shown (f .convergence) (f .evaluations) → Every ShownFinished (concluded m ds f e drops bands)
+  concluded-shown : (f : Fit) (e : Evaluation) (drops : List Float) (bands : Rows) → Shown (f .convergence) (f .evaluations)
+      → Every ShownFinished (concluded m ds f e drops bands)
   unfolding concluded
   concluded-shown f e drops bands h = every-after ShownFinished (baseline m) _ (λ b. every-done ShownFinished _ h)
 

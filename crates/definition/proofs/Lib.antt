@@ -4,5 +4,7 @@ pub mod Polls
 mod Fits
 mod Presence
 pub mod Questions
+pub mod Reading
 mod Ranges
 mod Warnings
+pub mod Calls

@@ -13,7 +13,8 @@ use Rattle.criteria.specs.Criteria.{materialOf}
 use Rattle.definition.specs.Request.{Measured}
 use Rattle.definition.specs.Run.{Run, done, bind, Reply, refused, entries, readingOf, answered, unless, require}
 use Rattle.definition.specs.Likelihood.{objectiveOf, valued, objective}
-use Rattle.definition.specs.Mesh.{Poll, notConverged, Pass, Turn, evaluates, ended, Looked, moved, noneMoved, look, directions, ungained, begin, judged, turn, seen, stoppedAt, stopped, onTurn, onLook, poll, quarteredOf}
+use Rattle.definition.specs.Mesh.{Poll, notConverged, Pass, Turn, evaluates, ended, Looked, moved, noneMoved, look, directions, ungained, begin}
+use Rattle.definition.specs.Mesh.{judged, turn, seen, stoppedAt, stopped, onTurn, onLook, poll, quarteredOf}
 use Rattle.definition.specs.Summary.{diagnosticsOf, reportOf}
 use Rattle.definition.specs.Laws.{Counted, PollCounted, FitEvaluations, radiusAfter, TenRadii}
 use Rattle.definition.specs.declared.Point.{Point}
@@ -25,7 +26,8 @@ abbrev pub evaluationsOf : Turn → ℕ
 evaluationsOf (evaluates c s) = s .evaluations
 evaluationsOf (ended r) = r .evaluations
 
-on-look : (l : Looked) (n : ℕ) (none : Turn) (some : Point → List Point → Turn) → evaluationsOf none ≡ n → ((c : Point) (ds : List Point) → evaluationsOf (some c ds) ≡ n)
+on-look : (l : Looked) (n : ℕ) (none : Turn) (some : Point → List Point → Turn) → evaluationsOf none ≡ n
+    → ((c : Point) (ds : List Point) → evaluationsOf (some c ds) ≡ n)
     → evaluationsOf (onLook l none some) ≡ n
 on-look noneMoved n none some h k = h
 on-look (moved c ds) n none some h k = k c ds
@@ -66,7 +68,8 @@ unfolding stopped
 stopped-same s = go (materialOf (s .current) (s .best)) (stopped-at-same (s .smaller) s)
   where
     go : (b : Bool) → stoppedAt (s .smaller) s .evaluations ≡ s .evaluations
-        → cond {A = Poll} b (record { point = s .bestPoint; convergence = notConverged; evaluations = s .evaluations }) (stoppedAt (s .smaller) s) .evaluations ≡ s .evaluations
+        → cond {A = Poll} b (record { point = s .bestPoint; convergence = notConverged; evaluations = s .evaluations })
+        (stoppedAt (s .smaller) s) .evaluations ≡ s .evaluations
     go true h = refl
     go false h = h
 

@@ -10,7 +10,8 @@ use Rattle.matrix.specs.Matrix.{Inverted, inverse, nonFinite, rankDeficient, in
 use Rattle.matrix.specs.declared.Symmetric2.{Symmetric2}
 use Rattle.interval.specs.declared.GaussianIntervalV1.{GaussianIntervalV1}
 use Rattle.criteria.specs.Criteria.{atBoundOf}
-use Rattle.definition.specs.Summary.{interval95, Approximation, available, unavailable, covarianceOf, correlationOf, withIntervals, withInverse, buildApproximationOf, approximationOf}
+use Rattle.definition.specs.Summary.{interval95, Approximation, available, unavailable, covarianceOf, correlationOf, withIntervals, withInverse}
+use Rattle.definition.specs.Summary.{buildApproximationOf, approximationOf}
 use Rattle.definition.specs.Laws.{IsAvailable, Exist, Presence}
 use Rattle.definition.specs.declared.Point.{Point}
 use Rattle.definition.specs.declared.TruingApproximationFailureCodeV1.{TruingApproximationFailureCodeV1}
@@ -31,7 +32,19 @@ module _ (verified : Bool) (p : Point) (s : Symmetric2) (v : verified ≡ true) 
     where
       go : (b : Bool) → finite (correlationOf (covarianceOf q)) ≡ b → (a : Approximation) (code : TruingApproximationFailureCodeV1)
           → IsAvailable (cond b a (unavailable code)) → Exist verified p s
-      go true r a code h = record { converged = v; apart = at; covariance = q; condition = k; inverted = i; mvInterval = mv; mvExists = e; bcInterval = bc; bcExists = f; correlated = r }
+      go true r a code h =
+          record {
+            converged = v;
+            apart = at;
+            covariance = q;
+            condition = k;
+            inverted = i;
+            mvInterval = mv;
+            mvExists = e;
+            bcInterval = bc;
+            bcExists = f;
+            correlated = r;
+          }
       go false r a code h = withheld code h
 
   inverse-is : (i : Inverted) → inverseOf s ≡ i → IsAvailable (withInverse p i) → Exist verified p s
@@ -40,7 +53,8 @@ module _ (verified : Bool) (p : Point) (s : Symmetric2) (v : verified ≡ true) 
   inverse-is (inverse q k) e h = there-is q k e _ _ refl refl h
 
 module _ (p : Point) (s : Symmetric2) where
-  apart-is : (b : Bool) → atBoundOf (p .mv) (p .bc) ≡ b → (code : TruingApproximationFailureCodeV1) → IsAvailable (cond b (unavailable code) (withInverse p (inverseOf s)))
+  apart-is : (b : Bool) → atBoundOf (p .mv) (p .bc) ≡ b → (code : TruingApproximationFailureCodeV1)
+      → IsAvailable (cond b (unavailable code) (withInverse p (inverseOf s)))
       → Exist true p s
   apart-is true e code h = withheld _ h
   apart-is false e code h = inverse-is true p s refl e (inverseOf s) refl h

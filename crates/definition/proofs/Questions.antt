@@ -17,11 +17,14 @@ use Rattle.definition.specs.Laws.{Asks, finishes, stops, asks, put, Coun
 use Rattle.definition.specs.Request.{Observation, Requested, Measured, Opening}
 use Rattle.definition.specs.Run.{Run, ask, bind, Reply, refused, entries, Which, shots, distances, new, Reading, answered, read, unless, require}
 use Rattle.definition.specs.Host.{Host, play}
-use Rattle.definition.specs.Likelihood.{Rows, objectiveOf, valued, objective, bcMinus, bcPlus, mvMinus, mvPlus, truingJacobianRows, complete, evaluate, evaluationOf}
+use Rattle.definition.specs.Likelihood.{Rows, objectiveOf, valued, objective, bcMinus, bcPlus, mvMinus, mvPlus, truingJacobianRows, complete}
+use Rattle.definition.specs.Likelihood.{evaluate, evaluationOf}
 use Rattle.definition.specs.Mesh.{Poll, Pass, Turn, evaluates, ended, turn, onTurn, poll}
-use Rattle.definition.specs.Fit.{Fit, Trial, accepted, exhausted, Step, unfit, to, stepOf, flatOf, onStep, trials, meshed, verified, verify, onTrial, evaluated, iterate, fitMap}
+use Rattle.definition.specs.Fit.{Fit, Trial, accepted, exhausted, Step, unfit, to, stepOf, flatOf, onStep, trials, meshed, verified, verify, onTrial}
+use Rattle.definition.specs.Fit.{evaluated, iterate, fitMap}
 use Rattle.definition.specs.Summary.{Finished}
-use Rattle.definition.specs.Whole.{withinOf, faultyObservation, soundPriorOf, soundRequestedOf, faultyRequested, checkedPoint, checkedCount, checkedMeasured, checkedRequested}
+use Rattle.definition.specs.Whole.{withinOf, faultyObservation, soundPriorOf, soundRequestedOf, faultyRequested, checkedPoint, checkedCount}
+use Rattle.definition.specs.Whole.{checkedMeasured, checkedRequested}
 use Rattle.definition.specs.Whole.{bandRows, baseline, concluded, banded, fitted, run, whole, Edit, putIn, takeOut, exchange, unlessMissing, asked, edit}
 use Rattle.definition.specs.declared.Point.{Point}
 use Rattle.definition.specs.declared.Evaluation.{Evaluation}
@@ -268,7 +271,8 @@ every-new Q h (exchange i d) = λ p. h p (d .range)
 module _ {Q : Point → Which → Type 0} where
   asks-asked : (c : Finished) (e : Edit) (place : ℕ) (d : Requested) → ((p : Point) → Q p (new (d .range))) → Asks Q 5 (asked c e place d)
   unfolding asked
-  asks-asked c e place d h = asks-bind {n = 0} (asks-rows (new (d .range)) h (c .fit .point)) (λ one. asks-after (asks-missing (one .gap) place) (λ u. finishes))
+  asks-asked c e place d h =
+      asks-bind {n = 0} (asks-rows (new (d .range)) h (c .fit .point)) (λ one. asks-after (asks-missing (one .gap) place) (λ u. finishes))
 
   pub asks-edit : (c : Finished) (e : Edit) → OfNew Q e → Asks Q 5 (edit c e)
   unfolding edit

@@ -5,13 +5,14 @@ use mathlib.Core.Option.{Option, none, some}
 use mathlib.Core.Logic.{_⊎_}
 use lib.Ieee.{Float, nan, inf, fin, neg, le, isNan, ofBits}
 use Rattle.numeric.specs.Numeric.{zero64, one64, two64, finite}
-use Rattle.numeric.specs.Laws.{clamp-between, clamp-range}
+use Rattle.numeric.proofs.Order.{clamp-between, clamp-range}
 use Rattle.matrix.specs.Matrix.{Inverted, inverse, nonFinite, rankDeficient, inverseOf}
 use Rattle.matrix.specs.declared.Symmetric2.{Symmetric2}
 use Rattle.interval.specs.declared.GaussianIntervalV1.{GaussianIntervalV1}
 use Rattle.criteria.specs.Criteria.{atBoundOf}
 use Rattle.definition.specs.Likelihood.{evaluationOf}
-use Rattle.definition.specs.Summary.{interval95, Approximation, available, unavailable, covarianceOf, correlationOf, withIntervals, withInverse, buildApproximationOf, approximationOf, effectiveCountOf, effectiveCount, diagnosticsOf, reportOf}
+use Rattle.definition.specs.Summary.{interval95, Approximation, available, unavailable, covarianceOf, correlationOf, withIntervals, withInverse}
+use Rattle.definition.specs.Summary.{buildApproximationOf, approximationOf, effectiveCountOf, effectiveCount, diagnosticsOf, reportOf}
 use Rattle.definition.specs.Laws.{Between, CorrelationRange, EffectiveCountRange}
 use Rattle.definition.specs.declared.Point.{Point}
 

@@ -10,7 +10,8 @@ use Rattle.definition.specs.Constants.{leastSensitivityRatio, largestCon
 use Rattle.definition.specs.Lists.{any}
 use Rattle.definition.specs.Request.{Requested, Measured}
 use Rattle.definition.specs.Fit.{Fit}
-use Rattle.definition.specs.Summary.{Approximation, Diagnostics, converged, isMesh, whereAvailable, isUnavailable, atMostOne, isOutside, warn, warningsOf, reportOf}
+use Rattle.definition.specs.Summary.{Approximation, Diagnostics, converged, isMesh, whereAvailable, isUnavailable, atMostOne, isOutside, warn}
+use Rattle.definition.specs.Summary.{warningsOf, reportOf}
 use Rattle.definition.specs.declared.Evaluation.{Evaluation}
 use Rattle.definition.specs.Laws.{indexOf, RisingFrom, NotIn, Distinct, WarningsInOrder, WarningsOnce}
 use Rattle.definition.specs.declared.TruingUncertaintyWarningCodeV1.the-variants as Warning

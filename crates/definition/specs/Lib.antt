@@ -8,8 +8,8 @@ pub mod Fit
 pub mod Summary
 pub mod Whole
 pub mod Host
+pub mod Session
 pub mod Meaning
-pub mod Reading
 pub mod Decimals
 pub mod Figures
 pub mod Laws

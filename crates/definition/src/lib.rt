@@ -110,6 +110,20 @@ pub enum TruingUncertaintyWarningCodeV1 {
     PredictionOutsideObservedDomain,
 }
 
+// Which distances a question is about: those of the observations, the requested ones, or the new one of an edit.
+pub enum Distances {
+    Shots,
+    Requested,
+    New,
+}
+
+// What a call yields: a question (a point, and which list of distances), a report, or a refusal with its number and position.
+pub enum Step {
+    Question(f64, f64, Distances),
+    Report,
+    Refused(usize, usize),
+}
+
 // A double that may be absent.
 pub enum Number {
     Absent,

@@ -1,3 +1,3 @@
 pub mod Places
 pub mod Report
-pub mod Laws
+pub mod Reading

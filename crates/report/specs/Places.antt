@@ -1,5 +1,6 @@
 -- The places of a list, counted from 0, and what the answers for one place say.
 use Prim.Native.Nat.{ℕ, zero, suc}
+use mathlib.Core.Path.{_≡_}
 use mathlib.Core.Bool.{Bool, cond}
 use mathlib.Core.List.{List, [], _∷_}
 use mathlib.Core.Option.{Option, none, some}
@@ -25,6 +26,10 @@ module _ {A : Type 0} where
   nth i [] = none
   nth zero (a ∷ xs) = some a
   nth (suc i) (a ∷ xs) = nth i xs
+
+-- A list is read whole by its places: lists with the same places are the same. Theorem `lists-same`.
+abbrev pub ListsSame : Type 1
+ListsSame = (A : Type 0) (xs ys : List A) → ((i : ℕ) → nth i xs ≡ nth i ys) → xs ≡ ys
 
 -- a sigma of 0 stands for none: one that is given is above 0
 abbrev pub sigmaOf : Float → Option Float

@@ -48,6 +48,12 @@ pub struct UncertaintyTruingReportV1 {
     pub warnings: Warnings,
 }
 
+// The report that stands, but for its lists, which are read place by place; or that none stands.
+pub enum Shown {
+    Absent,
+    Given(UncertaintyTruingReportV1),
+}
+
 // The iterations begun: those that are not left.
 fn iterations_done(left: usize) -> usize
     ensures { λ r. ⌜ r ≡ 100 - left ⌝ }

@@ -1,129 +1,108 @@
--- The answers over plain values: what each stands for. The functions' proofs cite these.
-use Prim.Native.Nat.{ℕ, zero, suc, _-_, _≤_, _<_}
+-- A session within its limits and beyond them, over plain values. The functions' proofs cite these. Assumes nothing.
+use Prim.Native.Nat.{ℕ, _≤_}
 use mathlib.Core.Path.{_≡_, refl, sym, ap, _∙_, subst}
 use mathlib.Core.Bool.{Bool, true, false, cond, not, _&&_}
-use mathlib.Core.Option.{Option, none}
-use borrow.Author.Tests.{lt-ltb, not-true, not-false}
-use lib.Dec.{T, leb, leb→le, le→leb}
+use mathlib.Core.List.{List}
+use mathlib.Core.Option.{none}
+use native.Mathlib.Omega.{arith}
+use borrow.Author.Tests.{not-true, not-false}
+use lib.Dec.{T, leb, leb→le, eqb, eqb→eq}
 use lib.Ieee.{Float}
-use lib.Ieee.Fits.{and-i, and-l, and-r}
-use Rattle.definition.specs.Run.{Run, done, refuse, ask, bind, require, Reply, Which, shots}
-use Rattle.definition.specs.Likelihood as likelihood
+use lib.ListN.{length}
+use Rattle.definition.specs.Run.{Run, done, refuse, ask, Reply, Which}
 use Rattle.definition.specs.Summary.{Finished}
-use Rattle.definition.specs.declared.Point.{Point}
-use Rattle.definition.specs.declared.TruingPriorsV1.{TruingPriorsV1}
-use Rattle.numeric.specs.Numeric.{finite}
-use Rattle.fitting.specs.Meaning.{restOf}
-use Rattle.fitting.specs.declared.Progress.{Progress}
-use Rattle.fitting.specs.declared.Stage.{Stage}
-use Rattle.fitting.specs.declared.Wait.the-variants as Wait
-use Rattle.session.specs.Meaning.{measuredOf, wantedOf, finishedOf, over, after, stateAt, withinOf, state, head, counted, putAt, refusedAt, reportedAt, Sizes, sizesOf, Stands, valuedFrom, valueSays, Kind, kindOf, kindSaid, question}
-use Rattle.session.specs.Turning.{withProgress}
+use Rattle.definition.specs.Session.{rightLength, State, standing, over, after, head, counted, Declines, Stands, goesOn, moreOf}
+use Rattle.definition.proofs.Calls.{Closed}
+use Rattle.definition.specs.declared.Step.{Step}
+use Rattle.definition.specs.declared.Step.the-variants.{Refused}
+use Rattle.lists.proofs.Arrays.{and-both}
+use Rattle.phases.specs.Phases.{stateAt, planOf, finishedOf}
+use Rattle.phases.specs.declared.Phase.the-variants.{Over}
+use Rattle.phases.proofs.Taken.{closed-state}
+use Rattle.session.specs.Meaning.{heldOf, withinOf, state, seen, declinedBy, countedBy}
 use Rattle.session.specs.declared.Body.{Body}
-use Rattle.session.specs.declared.Phase.{Phase}
-use Rattle.session.specs.declared.Phase.the-variants.{Evaluation, Trial, Look}
-use Rattle.session.specs.declared.Phase.the-variants as Phase
-use Rattle.session.specs.declared.Value.{Value}
-use Rattle.session.specs.declared.Value.the-variants.{Gap, NonFinite, Sum}
-use Rattle.session.specs.declared.Answer.{Answer}
 use Rattle.session.specs.declared.Session.{Session}
-use Rattle.session.specs.declared.Distances.{Distances}
-use Rattle.session.specs.declared.Distances.the-variants as Distances
 
--- ---- runs that are equal, and sessions within their limits
+pub true-is : {b : Bool} → b ≡ true → T b
+true-is e = subst T (sym e) tt
 
-pub stands-same : {a : Answer} {z : Sizes} {kept : Option Finished} {n : ℕ} {t u : Run Finished} → Stands a z kept n t → t ≡ u → Stands a z kept n u
-stands-same {a} {z} {kept} {n} s e = subst (λ (x : Run Finished). Stands a z kept n x) e s
+pub is-true : (b : Bool) → T b → b ≡ true
+is-true true t = refl
+is-true false t = absurd t
 
-same-either-way : {A : Type 0} (b : Bool) (x : A) → cond b x x ≡ x
-same-either-way true x = refl
-same-either-way false x = refl
+pub false-is : false ≡ true → ⊥
+false-is e = subst T (sym e) tt
 
-cond-true : {A : Type 0} (b : Bool) (x y : A) → T b → cond b x y ≡ x
-cond-true true x y t = refl
-cond-true false x y t = absurd t
+-- a test by a function of code, and its negation
+pub held : (f b : Bool) → f ≡ b → not f ≡ false → T b
+held f b e t = true-is (sym e ∙ not-false f t)
 
--- the state of a session within its limits
-pub state-within : (s : Session) → T (withinOf (s .body)) → state s ≡ stateAt (s .body) (s .phase)
-state-within s h = cond-true (withinOf (s .body)) (stateAt (s .body) (s .phase)) over h
+pub failed : (f b : Bool) → f ≡ b → not f ≡ true → b ≡ false
+failed f b e t = sym e ∙ not-true f t
 
-pub within-progress : (b : Body) (g : Progress) → T (withinOf b) → g .left ≤ 100 → T (withinOf (withProgress b g))
-within-progress b g h l =
-    and-i (leb (b .shots .n) 64 && leb (b .wanted .n) 64) (leb (g .left) 100)
-    (and-l (leb (b .shots .n) 64 && leb (b .wanted .n) 64) (leb (b .progress .left) 100) h)
-    (le→leb (g .left) 100 l)
+-- ---- a reply of the right length
 
--- ---- the run ends
+pub right-lengths : (n : ℕ) (ds : List Float) (ms : List Bool) → rightLength n ds ms ≡ true → (length ds ≡ n) × (length ms ≡ n)
+right-lengths n ds ms e =
+    let t = and-both (eqb (length ds) n) (eqb (length ms) n) e in
+    (eqb→eq (length ds) n (true-is (t .0)), eqb→eq (length ms) n (true-is (t .1)))
 
-pub refused-stands : (b : Body) (n number position : ℕ) → Stands (refusedAt b n number position) (sizesOf b) none n (refuse number position)
-refused-stands b n number position = record { leads = same-either-way (withinOf b) over; says = refl; counts = refl; sized = refl }
+-- ---- the limits
 
-pub reported-stands : (b : Body) (n : ℕ) → T (withinOf b) → Stands (reportedAt b n) (sizesOf b) none n (done (finishedOf b))
-reported-stands b n h = record { leads = state-within (reportedAt b n .session) h; says = refl; counts = refl; sized = refl }
+pub shots-within : (b : Body) → withinOf b ≡ true → b .shots .n ≤ 64
+shots-within b h = leb→le (b .shots .n) 64 (true-is (and-both (leb (b .shots .n) 64) (leb (b .wanted .n) 64) h .0))
 
--- ---- the fit waits
+pub wanted-within : (b : Body) → withinOf b ≡ true → b .wanted .n ≤ 64
+wanted-within b h = leb→le (b .wanted .n) 64 (true-is (and-both (leb (b .shots .n) 64) (leb (b .wanted .n) 64) h .1))
 
-module _ (b : Body) (g : Progress) (n : ℕ) (h : T (withinOf b)) (l : g .left ≤ 100) where
-  pub evaluation-stands : (stage : Stage)
-      → Stands (putAt (withProgress b g) (Evaluation stage 0) n (g .point) Distances.Shots) (sizesOf b) none n (restOf (measuredOf b) (wantedOf b) g (Wait.Evaluation stage))
-  unfolding likelihood.evaluate likelihood.truingJacobianRows
-  evaluation-stands stage = record {
-    leads = state-within (putAt (withProgress b g) (Evaluation stage 0) n (g .point) Distances.Shots .session) (within-progress b g h l);
-    says = refl;
-    counts = refl;
-    sized = refl;
-  }
+pub state-within : (s : Session) → withinOf (s .body) ≡ true → state s ≡ stateAt (heldOf (s .body)) (s .phase)
+state-within s h = ap (λ (t : Bool). cond t (stateAt (heldOf (s .body)) (s .phase)) over) h
 
-  pub trial-stands : (q : Point) → Stands (putAt (withProgress b g) (Trial q) n q Distances.Shots) (sizesOf b) none n (restOf (measuredOf b) (wantedOf b) g (Wait.Trial q))
-  unfolding likelihood.objective
-  trial-stands q = record {
-    leads = state-within (putAt (withProgress b g) (Trial q) n q Distances.Shots .session) (within-progress b g h l);
-    says = refl;
-    counts = refl;
-    sized = refl;
-  }
+pub state-beyond : (s : Session) → withinOf (s .body) ≡ false → state s ≡ over
+state-beyond s h = ap (λ (t : Bool). cond t (stateAt (heldOf (s .body)) (s .phase)) over) h
 
-  pub look-stands : (c : Point) → g .pass .evaluations < 1024
-      → Stands (putAt (withProgress b g) (Look c) n c Distances.Shots) (sizesOf b) none n (restOf (measuredOf b) (wantedOf b) g (Wait.Look c))
-  unfolding likelihood.objective
-  look-stands c e = record {
-    leads =
-        state-within (putAt (withProgress b g) (Look c) n c Distances.Shots .session) (within-progress b g h l)
-        ∙ ap (λ (t : Bool). cond t (after none (restOf (measuredOf b) (wantedOf b) g (Wait.Look c))) over) (lt-ltb (g .pass .evaluations) 1024 e);
-    says = refl;
-    counts = refl;
-    sized = refl;
-  }
+-- a run that was refused is over, within its limits or not
+pub state-over : (b : Body) (n : ℕ) → state (record { body = b; phase = Over; asked = n }) ≡ over
+state-over b n = by (withinOf b)
+  where
+    by : (w : Bool) → cond w over over ≡ over
+    by true = refl
+    by false = refl
 
--- ---- one objective
+-- ---- no question is open
 
-pub left-within : (b : Body) → T (withinOf b) → b .progress .left ≤ 100
-left-within b h = leb→le (b .progress .left) 100 (and-r (leb (b .shots .n) 64 && leb (b .wanted .n) 64) (leb (b .progress .left) 100) h)
+abbrev closedAs : Bool → Session → State
+closedAs stands s = cond stands (standing (finishedOf (heldOf (s .body)))) over
 
--- the objective from its first gap and its sum
-pub value-gap : (g : ℕ) (x : Float) → (g ≡ 0 → ⊥) → valueSays (Gap g) ≡ valuedFrom g x
-value-gap zero x h = absurd (h refl)
-value-gap (suc g) x h = refl
+closed-as : (stands : Bool) (s : Session) → Closed (closedAs stands s)
+closed-as true s = tt
+closed-as false s = tt
 
-judged : (g : ℕ) (x : Float) (b : Bool) → g ≡ 0 → finite x ≡ b → valuedFrom g x ≡ bind (require b 12 0) (λ v. done x)
-judged g x b z f = ap (λ (n : ℕ). valuedFrom n x) z ∙ ap (λ (t : Bool). bind (require t 12 0) (λ v. done x)) f
+-- a session with no question open is over, or its report stands
+pub closed : (s : Session) → (withinOf (s .body) && planOf (s .phase) (s .body .entered) .asks) ≡ false → Closed (state s)
+closed s e = by (withinOf (s .body)) refl
+  where
+    by : (w : Bool) → withinOf (s .body) ≡ w → Closed (state s)
+    by false h = subst Closed (sym (state-beyond s h)) tt
+    by true h =
+        let asks : planOf (s .phase) (s .body .entered) .asks ≡ false =
+        ap (λ (w : Bool). w && planOf (s .phase) (s .body .entered) .asks) (sym h) ∙ e in
+        subst Closed (sym (state-within s h ∙ closed-state (heldOf (s .body)) (s .phase) (s .body .entered) asks)) (closed-as (planOf (s .phase) (s .body .entered) .stands) s)
 
-pub value-non-finite : (g : ℕ) (x s : Float) (f : Bool) → g ≡ 0 → s ≡ x → f ≡ finite s → not f ≡ true → valueSays NonFinite ≡ valuedFrom g x
-value-non-finite g x s f z e d t = sym (judged g x false z (ap finite (sym e) ∙ sym d ∙ not-true f t))
+-- ---- the number by which a reply is declined
 
-pub value-sum : (g : ℕ) (x s : Float) (f : Bool) → g ≡ 0 → s ≡ x → f ≡ finite s → not f ≡ false → valueSays (Sum s) ≡ valuedFrom g x
-value-sum g x s f z e d t = ap done e ∙ sym (judged g x true z (ap finite (sym e) ∙ sym d ∙ not-false f t))
+pub number-taken : (asks right : Bool) (n : ℕ) → n ≡ declinedBy asks right → n ≡ 0 → (asks ≡ true) × (right ≡ true)
+number-taken true true n e z = (refl, refl)
+number-taken true false n e z = absurd (omega arith)
+number-taken false right n e z = absurd (omega arith)
 
--- ---- a question
+-- ---- the count
 
-pub asks-stands : (b : Body) (phase : Phase) (n : ℕ) (q : Point) (list : Distances) (t : Run Finished) (w : Which) (c : Reply → Run Finished)
-    → T (withinOf b) → stateAt b phase ≡ after none t → t ≡ ask q w c → kindSaid list ≡ kindOf w → Stands (putAt b phase n q list) (sizesOf b) none n t
-asks-stands b phase n q list t w c h s e k = record {
-  leads = state-within (putAt b phase n q list .session) h ∙ s;
-  says = ap (λ (x : Kind). question (q .mv) (q .bc) x) k ∙ sym (ap head e);
-  counts = sym (ap (counted none n) e);
-  sized = refl;
-}
-
-pub stands-as : {r a : Answer} {z : Sizes} {kept : Option Finished} {n : ℕ} {t : Run Finished} → r ≡ a → Stands a z kept n t → Stands r z kept n t
-stands-as {r} {a} {z} {kept} {n} {t} e s = subst (λ (x : Answer). Stands x z kept n t) (sym e) s
+-- one more exactly where the answer is a question
+pub count-is : (step : Step) (n : ℕ) (t : Run Finished) → step ≡ head t → countedBy step n ≡ counted none n t
+count-is step n t e = ap (λ (x : Step). countedBy x n) e ∙ of t
+  where
+    of : (u : Run Finished) → countedBy (head u) n ≡ counted none n u
+    of (done c) = refl
+    of (refuse m i) = refl
+    of (ask p w k) = refl

@@ -1,9 +1,6 @@
 pub mod Laws
-pub mod Rows
-pub mod Steps
-pub mod OpenLaws
-pub mod CallLaws
-pub mod Turns
-pub mod Taken
-pub mod ReadLaws
-pub mod ChangeLaws
+mod Opens
+mod Laid
+mod Refusals
+pub mod Reading
+mod Changes

@@ -9,7 +9,7 @@ use borrow.Author.Needs.{needs}
 use lib.ListN.{length, drop}
 use lib.Ieee.{Float, nan}
 use Rattle.definition.specs.Lists.{firstAt}
-use Rattle.definition.specs.Reading.{rest-none, from, first-start, first-here, first-next, first-none, zip-cons, zip-first, zip-second, zip-third}
+use Rattle.definition.proofs.Reading.{rest-none, from, first-start, first-here, first-next, first-none, zip-cons, zip-first, zip-second, zip-third}
 use Rattle.definition.specs.Whole.{faultyObservation}
 use Rattle.definition.specs.Meaning.{observationOf, observationsOf}
 use Rattle.opening.proofs.first_faulty_observation.Statement.{statement}
@@ -39,13 +39,15 @@ returns : tie.Need-returns Inv-loop μ-loop
 returns c =
     let a = c .before .before .before .before .before .before .args in
     let l = c .before .before .loop in
-    none-left (a .ranges .now) (a .drops .now) (a .sigmas .now) (l .i) (omega (arith, zip-second observationOf (a .ranges .now) (a .drops .now) (a .sigmas .now))) (l .inv .1)
+    none-left (a .ranges .now) (a .drops .now) (a .sigmas .now) (l .i)
+    (omega (arith, zip-second observationOf (a .ranges .now) (a .drops .now) (a .sigmas .now))) (l .inv .1)
 
 returns-2 : tie.Need-returns-2 Inv-loop μ-loop
 returns-2 c =
     let a = c .before .before .before .before .before .before .before .args in
     let l = c .before .before .before .loop in
-    none-left (a .ranges .now) (a .drops .now) (a .sigmas .now) (l .i) (omega (arith, zip-third observationOf (a .ranges .now) (a .drops .now) (a .sigmas .now))) (l .inv .1)
+    none-left (a .ranges .now) (a .drops .now) (a .sigmas .now) (l .i)
+    (omega (arith, zip-third observationOf (a .ranges .now) (a .drops .now) (a .sigmas .now))) (l .inv .1)
 
 mul-is-sound-observation : tie.Need-mul-is-sound-observation Inv-loop μ-loop
 mul-is-sound-observation c = search needs
@@ -97,7 +99,8 @@ returns-4 : tie.Need-returns-4 Inv-loop μ-loop
 returns-4 c =
     let a = c .before .before .before .before .before .args in
     let l = c .before .loop in
-    none-left (a .ranges .now) (a .drops .now) (a .sigmas .now) (l .i) (omega (arith, zip-first observationOf (a .ranges .now) (a .drops .now) (a .sigmas .now))) (l .inv .1)
+    none-left (a .ranges .now) (a .drops .now) (a .sigmas .now) (l .i)
+    (omega (arith, zip-first observationOf (a .ranges .now) (a .drops .now) (a .sigmas .now))) (l .inv .1)
 
 pub first-faulty-observation-spec : {M : Type 1} → statement M
 first-faulty-observation-spec =

@@ -2,7 +2,7 @@
 use mathlib.Core.Path.{sym}
 use native.Mathlib.Omega.{arith}
 use lib.Ieee.{nan}
-use Rattle.report.specs.Laws.{nth-at, nth-past}
+use Rattle.report.proofs.Laws.{nth-at, nth-past}
 use borrow.Author.Needs.{needs}
 use Rattle.report.proofs.place.Statement.{statement}
 use Rattle.report.proofs.place.Tie as tie

@@ -11,7 +11,8 @@ use Rattle.definition.specs.Lists.{any, zipWith}
 use Rattle.definition.specs.Likelihood.{rowsOf}
 use Rattle.definition.specs.Fit.{Fit}
 use Rattle.definition.specs.Summary as summary
-use Rattle.definition.specs.Summary.{Band, Approximation, Diagnostics, Finished, Report, resultsOf, isOutside, converged, approximationOf, diagnosticsOf, warningsOf, bandOf, reportOf}
+use Rattle.definition.specs.Summary.{Band, Approximation, Diagnostics, Finished, Report, resultsOf, isOutside, converged, approximationOf, diagnosticsOf}
+use Rattle.definition.specs.Summary.{warningsOf, bandOf, reportOf}
 use Rattle.definition.specs.Meaning.{numberOf, convergenceOf, approximationSays}
 use Rattle.definition.specs.declared.Point.{Point}
 use Rattle.definition.specs.declared.Evaluation.{Evaluation}
@@ -21,10 +22,10 @@ use Rattle.definition.specs.declared.TruingUncertaintyWarningCodeV1.{TruingUnce
 use Rattle.fitting.specs.Meaning.{fitOf}
 use Rattle.fitting.specs.declared.Progress.{Progress}
 use Rattle.summary.specs.Summary.{diagnosticsSays, diagnosticsBy}
-use Rattle.summary.specs.Laws.{diagnostics-by}
+use Rattle.summary.proofs.Laws.{diagnostics-by}
 use Rattle.summary.specs.declared.TruingUncertaintyDiagnosticsV1.{TruingUncertaintyDiagnosticsV1}
 use Rattle.warnings.specs.Warnings.{codesOf, warningsBy}
-use Rattle.warnings.specs.Laws.{warnings-by}
+use Rattle.warnings.proofs.Laws.{warnings-by}
 use Rattle.warnings.specs.declared.Warnings.{Warnings}
 use Rattle.report.specs.Report.{Results, baselineSays, seenOf, PartsOf, Shows}
 use Rattle.report.specs.declared.Baseline.{Baseline}
@@ -33,7 +34,9 @@ use Rattle.report.proofs.report.Statement.{statement}
 use Rattle.report.proofs.report.Tie as tie
 
 -- a report from its parts
-abbrev reportFrom : Point → ℕ → Bool → TruingPriorsV1 → Results → Option summary.Baseline → Diagnostics → Approximation → List Band → List TruingUncertaintyWarningCodeV1 → Report
+abbrev reportFrom :
+    Point → ℕ → Bool → TruingPriorsV1 → Results → Option summary.Baseline → Diagnostics → Approximation → List Band → List TruingUncertaintyWarningCodeV1
+    → Report
 reportFrom p k v priors results baseline d a bands w = record {
   schemaVersion = 1;
   point = p;
@@ -49,7 +52,8 @@ reportFrom p k v priors results baseline d a bands w = record {
 }
 
 same :
-    {p p' : Point} {k k' : ℕ} {v v' : Bool} {q q' : TruingPriorsV1} (results : Results) {b b' : Option summary.Baseline} {d d' : Diagnostics} {a a' : Approximation}
+    {p p' : Point} {k k' : ℕ} {v v' : Bool} {q q' : TruingPriorsV1} (results : Results) {b b' : Option summary.Baseline} {d d' : Diagnostics}
+    {a a' : Approximation}
     {bands bands' : List Band} {w w' : List TruingUncertaintyWarningCodeV1}
     → p ≡ p' → k ≡ k' → v ≡ v' → q ≡ q' → b ≡ b' → d ≡ d' → a ≡ a' → bands ≡ bands' → w ≡ w'
     → reportFrom p k v q results b d a bands w ≡ reportFrom p' k' v' q' results b' d' a' bands' w'
@@ -62,7 +66,8 @@ module _
     (ev : v ≡ converged (convergenceOf (g .convergence)))
     (ea : approximationSays a ≡ approximationOf v (g .point) (g .evaluation .«posterior_information»))
     (ed : diagnosticsSays d ≡ diagnosticsBy n (convergenceOf (g .convergence)) (g .evaluations) (g .evaluation) (approximationSays a))
-    (ew : codesOf w ≡ warningsBy (convergenceOf (g .convergence)) (g .evaluation) priors (approximationSays a) (numberOf (d .«effective_degrees_of_freedom»)) outside) where
+    (ew : codesOf w
+    ≡ warningsBy (convergenceOf (g .convergence)) (g .evaluation) priors (approximationSays a) (numberOf (d .«effective_degrees_of_freedom»)) outside) where
   -- the head, by what its calls gave
   abbrev head : UncertaintyTruingReportV1
   head = record {
@@ -106,18 +111,27 @@ module _
     warnings-same : warningsOf (c .measured) (c .fit) (c .evaluation) approximation diagnostics (c .requested) ≡ codesOf w
     warnings-same =
         warnings-by (c .measured) (c .fit) (c .evaluation) approximation diagnostics (c .requested)
-        ∙ ap (λ (f : Fit). warningsBy (f .convergence) (c .evaluation) (c .measured .priors) approximation (diagnostics .effectiveDegreesOfFreedom) (any (isOutside (c .measured .observations)) (c .requested))) (h .has-fit)
-        ∙ ap (λ (e : Evaluation). warningsBy (convergenceOf (g .convergence)) e (c .measured .priors) approximation (diagnostics .effectiveDegreesOfFreedom) (any (isOutside (c .measured .observations)) (c .requested))) (h .has-evaluation)
-        ∙ ap (λ (q : TruingPriorsV1). warningsBy (convergenceOf (g .convergence)) (g .evaluation) q approximation (diagnostics .effectiveDegreesOfFreedom) (any (isOutside (c .measured .observations)) (c .requested))) (h .has-priors)
-        ∙ ap (λ (x : Approximation). warningsBy (convergenceOf (g .convergence)) (g .evaluation) priors x (diagnostics .effectiveDegreesOfFreedom) (any (isOutside (c .measured .observations)) (c .requested))) approximation-same
-        ∙ ap (λ (x : Diagnostics). warningsBy (convergenceOf (g .convergence)) (g .evaluation) priors (approximationSays a) (x .effectiveDegreesOfFreedom) (any (isOutside (c .measured .observations)) (c .requested))) diagnostics-same
-        ∙ ap (λ (b : Bool). warningsBy (convergenceOf (g .convergence)) (g .evaluation) priors (approximationSays a) (numberOf (d .«effective_degrees_of_freedom»)) b) (h .has-outside)
+        ∙ ap (λ (f : Fit). warningsBy (f .convergence) (c .evaluation) (c .measured .priors) approximation (diagnostics .effectiveDegreesOfFreedom)
+        (any (isOutside (c .measured .observations)) (c .requested))) (h .has-fit)
+        ∙ ap (λ (e : Evaluation). warningsBy (convergenceOf (g .convergence)) e (c .measured .priors) approximation (diagnostics .effectiveDegreesOfFreedom)
+        (any (isOutside (c .measured .observations)) (c .requested))) (h .has-evaluation)
+        ∙ ap (λ (q : TruingPriorsV1). warningsBy (convergenceOf (g .convergence)) (g .evaluation) q approximation (diagnostics .effectiveDegreesOfFreedom)
+        (any (isOutside (c .measured .observations)) (c .requested))) (h .has-priors)
+        ∙ ap (λ (x : Approximation). warningsBy (convergenceOf (g .convergence)) (g .evaluation) priors x (diagnostics .effectiveDegreesOfFreedom)
+        (any (isOutside (c .measured .observations)) (c .requested))) approximation-same
+        ∙ ap (λ (x : Diagnostics). warningsBy (convergenceOf (g .convergence)) (g .evaluation) priors (approximationSays a) (x .effectiveDegreesOfFreedom)
+        (any (isOutside (c .measured .observations)) (c .requested))) diagnostics-same
+        ∙ ap (λ (b : Bool). warningsBy (convergenceOf (g .convergence)) (g .evaluation) priors (approximationSays a)
+        (numberOf (d .«effective_degrees_of_freedom»)) b) (h .has-outside)
         ∙ sym ew
 
-    whole : reportOf c ≡ seenOf head (resultsOf (c .measured .observations) (c .predicted)) entered (zipWith (bandOf (approximationSays a)) (c .requested) (rowsOf (c .bandRows)))
+    whole : reportOf c
+        ≡ seenOf head (resultsOf (c .measured .observations) (c .predicted)) entered
+        (zipWith (bandOf (approximationSays a)) (c .requested) (rowsOf (c .bandRows)))
     unfolding reportOf
     whole =
-        same (resultsOf (c .measured .observations) (c .predicted)) (ap (λ (f : Fit). f .point) (h .has-fit)) (ap (λ (f : Fit). f .iterations) (h .has-fit) ∙ sym ek)
+        same (resultsOf (c .measured .observations) (c .predicted)) (ap (λ (f : Fit). f .point) (h .has-fit))
+        (ap (λ (f : Fit). f .iterations) (h .has-fit) ∙ sym ek)
         (ap (λ (f : Fit). converged (f .convergence)) (h .has-fit) ∙ sym ev) (h .has-priors) (h .has-baseline) diagnostics-same approximation-same
         (ap (λ (x : Approximation). zipWith (bandOf x) (c .requested) (rowsOf (c .bandRows))) approximation-same) warnings-same
 

@@ -10,7 +10,10 @@ evaluate-requires : tie.Need-evaluate-requires
 evaluate-requires c κs = search needs
 
 returns : tie.Need-returns
-returns c = simp (c .before .before .before .before .before .before .before .before .if1 .taken, ← c .before .before .before .before .before .before .first-places .ensures, ← c .evaluate .ensures)
+returns c =
+    let at-first-places = c .before .before .before .before .before .before in
+    let at-if1 = at-first-places .before .before in
+    simp (at-if1 .if1 .taken, ← at-first-places .first-places .ensures, ← c .evaluate .ensures)
 
 returns-2 : tie.Need-returns-2
 returns-2 c = simp (c .if1 .left)

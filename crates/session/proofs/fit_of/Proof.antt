@@ -2,8 +2,8 @@
 use borrow.Author.Needs.{needs}
 use mathlib.Core.Path.{sym, _∙_}
 use borrow.Author.Tests.{not-false}
-use Rattle.session.proofs.CallLaws.{failed}
-use Rattle.session.proofs.ChangeLaws.{fitted-none, fitted-some}
+use Rattle.session.proofs.Laws.{failed}
+use Rattle.session.proofs.Changes.{fitted-none, fitted-some}
 use Rattle.session.proofs.fit_of.Statement.{statement}
 use Rattle.session.proofs.fit_of.Tie as tie
 
@@ -19,7 +19,12 @@ bands-count-requires c κs = search needs
 
 returns-2 : tie.Need-returns-2
 returns-2 c =
-    fitted-some (c .before .before .before .before .before .before .args .s) (c .before .bands-count .result) (sym (c .before .before .before .before .before .is-standing .ensures) ∙ not-false _ (c .before .before .before .before .if1 .left)) (c .before .bands-count .ensures)
+    let at-bands-count = c .before in
+    let at-if1 = at-bands-count .before .before .before in
+    let at-is-standing = at-if1 .before in
+    let start = at-is-standing .before in
+    fitted-some (start .args .s) (at-bands-count .bands-count .result) (sym (at-is-standing .is-standing .ensures) ∙ not-false _ (at-if1 .if1 .left))
+    (at-bands-count .bands-count .ensures)
 
 pub fit-of-spec : {M : Type 1} → statement M
 fit-of-spec = tie.close (tie.spec is-standing-requires returns bands-count-requires returns-2)

@@ -2,7 +2,7 @@
 use native.Mathlib.Numerals.{add-one}
 use borrow.Author.Tests.{lt-ltb, le-ltb}
 use borrow.Author.Needs.{needs}
-use Rattle.session.specs.Meaning.{moreOf}
+use Rattle.definition.specs.Session.{moreOf}
 use Rattle.session.proofs.more.Statement.{statement}
 use Rattle.session.proofs.more.Tie as tie
 

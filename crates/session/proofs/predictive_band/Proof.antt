@@ -2,8 +2,8 @@
 use mathlib.Core.Path.{sym, _∙_}
 use borrow.Author.Needs.{needs}
 use borrow.Author.Tests.{not-false}
-use Rattle.session.proofs.CallLaws.{failed}
-use Rattle.session.proofs.ReadLaws.{no-band, a-band}
+use Rattle.session.proofs.Laws.{failed}
+use Rattle.session.proofs.Reading.{no-band, a-band}
 use Rattle.session.proofs.predictive_band.Statement.{statement}
 use Rattle.session.proofs.predictive_band.Tie as tie
 
@@ -20,7 +20,14 @@ band-of-requires : tie.Need-band-of-requires
 band-of-requires c κs = search needs
 
 returns-2 : tie.Need-returns-2
-returns-2 c = a-band (c .before .before .before .before .before .before .before .args .s) (c .before .before .before .before .before .before .before .args .i) (c .band-of .result) (c .before .approximation-of .result) (sym (c .before .before .before .before .before .before .is-standing .ensures) ∙ not-false _ (c .before .before .before .before .before .if1 .left)) (c .before .approximation-of .ensures) (c .band-of .ensures)
+returns-2 c =
+    let at-approximation-of = c .before in
+    let at-if1 = at-approximation-of .before .before .before .before in
+    let at-is-standing = at-if1 .before in
+    let start = at-is-standing .before in
+    a-band (start .args .s) (start .args .i) (c .band-of .result) (at-approximation-of .approximation-of .result)
+    (sym (at-is-standing .is-standing .ensures) ∙ not-false _ (at-if1 .if1 .left)) (at-approximation-of .approximation-of .ensures)
+    (c .band-of .ensures)
 
 pub predictive-band-spec : {M : Type 1} → statement M
 predictive-band-spec =

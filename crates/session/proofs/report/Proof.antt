@@ -2,8 +2,8 @@
 use mathlib.Core.Path.{sym, _∙_}
 use borrow.Author.Needs.{needs}
 use borrow.Author.Tests.{not-false}
-use Rattle.session.proofs.CallLaws.{failed}
-use Rattle.session.proofs.ReadLaws.{standing-within, head-of, shown, none-shown}
+use Rattle.session.proofs.Laws.{failed}
+use Rattle.session.proofs.Reading.{standing-within, head-of, shown, none-shown}
 use Rattle.session.proofs.report.Statement.{statement}
 use Rattle.session.proofs.report.Tie as tie
 
@@ -30,10 +30,20 @@ report-requires c κs = search needs
 
 returns-2 : tie.Need-returns-2
 returns-2 c =
-    let s = c .before .before .before .before .before .before .before .before .before .before .before .before .before .before .before .args .s in
-    shown s (c .report .result) (sym (c .before .before .before .before .before .before .before .before .before .before .before .before .before .before .is-standing .ensures) ∙ not-false _ (c .before .before .before .before .before .before .before .before .before .before .before .before .before .if1 .left))
-    (head-of (s .body) (c .report .result) (c .before .before .before .results-count .result) (c .before .before .bands-count .result) (c .before .before .before .before .baseline-of .result) (c .before .any-outside .result)
-    (standing-within s (sym (c .before .before .before .before .before .before .before .before .before .before .before .before .before .before .is-standing .ensures) ∙ not-false _ (c .before .before .before .before .before .before .before .before .before .before .before .before .before .if1 .left))) (c .report .ensures) (c .before .before .before .results-count .ensures) (c .before .before .bands-count .ensures) (c .before .any-outside .ensures) (c .before .before .before .before .baseline-of .ensures))
+    let at-any-outside = c .before in
+    let at-bands-count = at-any-outside .before in
+    let at-results-count = at-bands-count .before in
+    let at-baseline-of = at-results-count .before in
+    let at-if1 = at-baseline-of .before .before .before .before .before .before .before .before .before in
+    let at-is-standing = at-if1 .before in
+    let start = at-is-standing .before in
+    let s = start .args .s in
+    shown s (c .report .result) (sym (at-is-standing .is-standing .ensures) ∙ not-false _ (at-if1 .if1 .left))
+    (head-of (s .body) (c .report .result) (at-results-count .results-count .result) (at-bands-count .bands-count .result)
+    (at-baseline-of .baseline-of .result) (at-any-outside .any-outside .result)
+    (standing-within s (sym (at-is-standing .is-standing .ensures) ∙ not-false _ (at-if1 .if1 .left))) (c .report .ensures)
+    (at-results-count .results-count .ensures) (at-bands-count .bands-count .ensures) (at-any-outside .any-outside .ensures)
+    (at-baseline-of .baseline-of .ensures))
 
 pub report-spec : {M : Type 1} → statement M
 report-spec =
