@@ -6,34 +6,27 @@ use mathlib.Core.Option.{Option, none, some}
 use lib.ListN.{length}
 use Rattle.definition.specs.Summary.{Band, Report}
 use Rattle.report.specs.Report.{Results}
-use Rattle.session.specs.Meaning.{Kind, ofShots, ofDistances, ofNew, Said, question, report, refusal, said}
-use Rattle.session.specs.Reading.{reportIn, baselineResults}
+use Rattle.definition.specs.declared.Step.{Step}
+use Rattle.definition.specs.declared.Step.the-variants as Step
+use Rattle.report.specs.Reading.{baselineResults, reportIn}
 use Rattle.editing.specs.Meaning.{state}
 use Rattle.editing.specs.declared.Session.{Session}
 use Rattle.editing.specs.declared.Answer.{Answer}
 use Rattle.texts.specs.Writing.{Text}
 use Rattle.texts.specs.Texts.{questionText, declinedText, reportText}
-use Rattle.texts.specs.declared.Kind.{Kind as Word}
-use Rattle.texts.specs.declared.Kind.the-variants.{Shots, Distances, New}
-
--- the word for the list of distances that a question is about
-abbrev pub kindIn : Kind → Word
-kindIn ofShots = Shots
-kindIn ofDistances = Distances
-kindIn ofNew = New
 
 -- the report that stands, written out, or nothing where none does
 abbrev pub standingText : Option Report → Text
 standingText none = []
 standingText (some p) = reportText p
 
-abbrev pub saidText : Said → Option Report → Text
-saidText (question mv bc list) p = questionText (kindIn list) mv bc
-saidText report p = standingText p
-saidText (refusal number position) p = declinedText number position
+abbrev pub saidText : Step → Option Report → Text
+saidText (Step.Question mv bc list) p = questionText list mv bc
+saidText Step.Report p = standingText p
+saidText (Step.Refused number position) p = declinedText number position
 
 unfoldable pub answerText : Answer → Text
-answerText a = saidText (said (a .step)) (reportIn (state (a .session)))
+answerText a = saidText (a .step) (reportIn (state (a .session)))
 
 -- a text as a line, with its line feed
 abbrev pub line : Text → Text

@@ -1,37 +1,27 @@
 // The session's answers as lines of the protocol, without their line feeds.
+use definition::Step;
 use editing::Answer;
 use editing::Session;
 use report::BandAt;
 use report::Baseline;
 use report::ResultAt;
+use report::Shown;
 use report::UncertaintyTruingReportV1;
-use session::Distances;
-use session::Shown;
-use session::Step;
-use texts::Kind;
 ghost use mathlib.Core.Path.{_≡_};
 ghost use mathlib.Core.Bool.{true};
 ghost use mathlib.Core.Option.{some};
 ghost use lib.ListN.{take};
 ghost use Rattle.definition.specs.Summary.{Report};
 ghost use Rattle.report.specs.Places.{nth, resultSays};
-ghost use Rattle.session.specs.Meaning.{kindSaid};
-ghost use Rattle.session.specs.Reading.{reportIn, HeadOf};
+ghost use Rattle.definition.specs.declared.Step.{Step};
+ghost use Rattle.definition.specs.declared.Distances.{Distances};
+ghost use Rattle.report.specs.Reading.{HeadOf};
+ghost use Rattle.report.specs.Reading.{reportIn};
 ghost use Rattle.editing.specs.Meaning.{state};
 ghost use Rattle.texts.specs.Writing.{Writes};
 ghost use Rattle.texts.specs.Texts.{resultsText, bandsText, reportText};
 ghost use Rattle.texts.specs.Pieces.{baselineList};
-ghost use Rattle.answers.specs.Answers.{kindIn, resultsIn, bandsIn, standingText, answerText};
-
-fn kind_of(list: Distances) -> Kind
-    ensures { λ r. ⌜ r ≡ kindIn (kindSaid list) ⌝ }
-{
-    match list {
-        Distances::Shots => Kind::Shots,
-        Distances::Requested => Kind::Distances,
-        Distances::New => Kind::New,
-    }
-}
+ghost use Rattle.answers.specs.Answers.{resultsIn, bandsIn, standingText, answerText};
 
 // An observation result at the fit, or at the entered point.
 fn result(s: Session, of_baseline: bool, i: usize) -> ResultAt
@@ -105,7 +95,7 @@ fn put_shown(out: &mut [u8], at: usize, s: Session, h: UncertaintyTruingReportV1
 }
 
 // The report that stands, or nothing where none does.
-pub fn put_report(out: &mut [u8], at: usize, s: Session) -> usize
+fn put_report(out: &mut [u8], at: usize, s: Session) -> usize
     ensures { λ r. ⌜ Writes (now (out .entry)) at (now (out .exit)) r (standingText (reportIn (state s))) ⌝ }
 {
     match editing::report(s) {
@@ -120,7 +110,7 @@ pub fn put_answer(out: &mut [u8], at: usize, a: Answer) -> usize
     let s = a.session;
     let step = a.step;
     match step {
-        Step::Question(mv, bc, list) => texts::put_question(out, at, kind_of(list), mv, bc),
+        Step::Question(mv, bc, list) => texts::put_question(out, at, list, mv, bc),
         Step::Report => put_report(out, at, s),
         Step::Refused(n, i) => texts::put_declined(out, at, n as u64, i as u64),
     }

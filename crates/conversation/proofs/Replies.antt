@@ -17,9 +17,10 @@ use Rattle.definition.specs.Whole.{whole}
 use Rattle.definition.specs.Laws.{Asks}
 use Rattle.definition.specs.declared.Point.{Point}
 use Rattle.definition.proofs.Questions.{asks-now}
-use Rattle.session.specs.Meaning.{sizesFor, wants, rightLength}
+use Rattle.definition.specs.Session.{sizesFor, wants, rightLength}
 use Rattle.editing.specs.declared.Session.{Session}
-use Rattle.demands.specs.Calls.{Call, reply, resume, Editing, At, restBy, rest, Taking, declines, takes, takingReply, stance, taken, unlessDeclined, after, due, dueTo}
+use Rattle.demands.specs.Calls.{Call, reply, resume, Editing, At, restBy, rest, Taking, declines, takes, takingReply, stance, taken, unlessDeclined, after}
+use Rattle.demands.specs.Calls.{due, dueTo}
 use Rattle.demands.specs.Standing.{IsNew, News}
 use Rattle.forms.specs.Lines.{Entry, Form}
 use Rattle.forms.specs.Lines as form
@@ -70,7 +71,8 @@ of-edit o p shots h = absurd h
 of-edit o p distances h = absurd h
 of-edit o p (new d) h = omega arith
 
-asks-few : (s : Session) (o : Opening) (t : At) → Stands s o t → (p : Point) (w : Which) (k : Reply → Run Finished) → rest o t ≡ ask p w k → wants (sizesFor o) w ≤ 64
+asks-few : (s : Session) (o : Opening) (t : At) → Stands s o t → (p : Point) (w : Which) (k : Reply → Run Finished) → rest o t ≡ ask p w k
+    → wants (sizesFor o) w ≤ 64
 asks-few s o t h p w k e = by (t .last) (h .inv .news) e
   where
     by : (l : Option Editing) → News l (restBy (kept o) (t .run) l) → restBy o (t .run) l ≡ ask p w k → wants (sizesFor o) w ≤ 64
@@ -94,16 +96,19 @@ module _ (o : Opening) (t : At) where
     ap (λ (z : Taking). due z (rest o (after o t x))) e ∙ sym (ap (λ (z : Taking). due z (rest o (after o t y))) f),
   )
 
-  closed : {u : Run Finished} (es : List Entry) → rest o t ≡ u → takingReply (sizesFor o) u (map dropOf es) (map isMissing es) ≡ declines 8 → stance o t (replyOf es) ≡ declines 8
+  closed : {u : Run Finished} (es : List Entry) → rest o t ≡ u → takingReply (sizesFor o) u (map dropOf es) (map isMissing es) ≡ declines 8
+      → stance o t (replyOf es) ≡ declines 8
   closed es e q = ap (λ (v : Run Finished). takingReply (sizesFor o) v (map dropOf es) (map isMissing es)) e ∙ q
 
-  declined-long : (u : Run Finished) → rest o t ≡ u → ((p : Point) (w : Which) (k : Reply → Run Finished) → u ≡ ask p w k → wants (sizesFor o) w ≤ 64) → (es : List Entry) → 65 < length es
+  declined-long : (u : Run Finished) → rest o t ≡ u → ((p : Point) (w : Which) (k : Reply → Run Finished) → u ≡ ask p w k → wants (sizesFor o) w ≤ 64)
+      → (es : List Entry) → 65 < length es
       → (after o t (replyOf (take 65 es)) ≡ after o t (replyOf es)) × (dueTo o t (replyOf (take 65 es)) ≡ dueTo o t (replyOf es))
   declined-long (done c) e h es l =
       same-declined (replyOf (take 65 es)) (replyOf es) 8 (closed (take 65 es) e refl) (closed es e refl)
   declined-long (refuse n i) e h es l =
       same-declined (replyOf (take 65 es)) (replyOf es) 8 (closed (take 65 es) e refl) (closed es e refl)
-  declined-long (ask p w k) e h es l = same-declined (replyOf (take 65 es)) (replyOf es) 9 (no (take 65 es) (omega (arith, length-take 65 es))) (no es (omega arith))
+  declined-long (ask p w k) e h es l =
+      same-declined (replyOf (take 65 es)) (replyOf es) 9 (no (take 65 es) (omega (arith, length-take 65 es))) (no es (omega arith))
     where
       no : (fs : List Entry) → 64 < length fs → stance o t (replyOf fs) ≡ declines 9
       no fs g =

@@ -17,10 +17,11 @@ use Rattle.definition.specs.Run.{Run, done, refuse, ask}
 use Rattle.definition.specs.Summary.{Report}
 use Rattle.definition.specs.Laws.{put}
 use Rattle.definition.specs.Whole.{whole}
-use Rattle.likelihood.specs.Arrays as arrays
-use Rattle.session.specs.Meaning.{State, asking, standing, over, Said, said, head, moreOf, rightLength, wants, either}
-use Rattle.session.specs.Reading.{reportIn}
-use Rattle.editing.specs.Meaning.{state, sizes, Stands as Stood, Declines, entriesTaken, Opened, Replied}
+use Rattle.definition.specs.Session as arrays
+use Rattle.definition.specs.Session.{State, asking, standing, over, head, moreOf, rightLength, wants, either}
+use Rattle.report.specs.Reading.{reportIn}
+use Rattle.editing.specs.Meaning.{state, seen}
+use Rattle.editing.proofs.Contracts.{Stands as Stood, Declines, entriesTaken, Opened, Replied}
 use Rattle.editing.specs.declared.Session.{Session}
 use Rattle.editing.specs.declared.Answer.{Answer as Given}
 use Rattle.demands.specs.Calls.{Call, reply, first, finishedAt, reportBy, after, dueTo}
@@ -29,14 +30,15 @@ use Rattle.forms.specs.Lines.{Entry, missing, given, Form}
 use Rattle.forms.specs.Reading.{entryAt, zipEntries, entriesIn, formIn, formSays}
 use Rattle.forms.specs.declared.Line.{Line}
 use Rattle.forms.specs.declared.ReadForm.{ReadForm}
-use Rattle.texts.specs.Writing as writing
+use Rattle.texts.proofs.Writing as writing
 use Rattle.texts.specs.Writing.{Text, Writes}
-use Rattle.texts.specs.Lengths.{asked-length, malformed-length}
+use Rattle.texts.proofs.Lengths.{asked-length, malformed-length}
 use Rattle.texts.specs.Texts.{askedText, malformedText}
 use Rattle.answers.specs.Answers as answers
 use Rattle.answers.specs.Answers.{saidText, line}
 use Rattle.answers.proofs.Fits.{answer-fits}
-use Rattle.conversation.specs.Conversation.{Conversation, Answer, malformedAt, Answered, answerText, malformedLine, collected, inPlace, opens, calls, dropOf, isMissing, replyOf, nextLine, answerTo}
+use Rattle.conversation.specs.Conversation.{Conversation, Answer, malformedAt, Answered, answerText, malformedLine, collected, inPlace, opens, calls}
+use Rattle.conversation.specs.Conversation.{dropOf, isMissing, replyOf, nextLine, answerTo}
 use Rattle.requests.specs.Kept.{kept, openingIn, Keeps}
 use Rattle.conversation.specs.Tracks.{Stands, Tracks, responseSays, responseText, Responds, Fills}
 use Rattle.conversation.specs.declared.Section.{Section}
@@ -50,10 +52,12 @@ use Rattle.conversation.proofs.Standing.{called, opened, counts, report
 
 -- ---- in its place or not
 
-pub late : {t : Held} {u : Conversation} → Tracks t u → (f : Section → Bool) (a : Answered) (b : Bool) → b ≡ f (t .section) → b ≡ false → {r : Responded} → Responds r (malformedLine u) → Responds r (inPlace (f (u .section)) u a)
+pub late : {t : Held} {u : Conversation} → Tracks t u → (f : Section → Bool) (a : Answered) (b : Bool) → b ≡ f (t .section) → b ≡ false → {r : Responded}
+    → Responds r (malformedLine u) → Responds r (inPlace (f (u .section)) u a)
 late {t} {u} k f a b e n {r} d = subst (λ (v : Bool). Responds r (inPlace v u a)) (sym n ∙ e ∙ ap f (k .section)) d
 
-pub timely : {t : Held} {u : Conversation} → Tracks t u → (f : Section → Bool) (a : Answered) (b : Bool) → b ≡ f (t .section) → b ≡ true → {r : Responded} → Responds r a → Responds r (inPlace (f (u .section)) u a)
+pub timely : {t : Held} {u : Conversation} → Tracks t u → (f : Section → Bool) (a : Answered) (b : Bool) → b ≡ f (t .section) → b ≡ true → {r : Responded}
+    → Responds r a → Responds r (inPlace (f (u .section)) u a)
 timely {t} {u} k f a b e n {r} d = subst (λ (v : Bool). Responds r (inPlace v u a)) (sym n ∙ e ∙ ap f (k .section)) d
 
 -- ---- what is answered
@@ -63,27 +67,34 @@ module _ (h : Held) (u : Conversation) (k : Tracks h u) where
   malformed-responds = record { conversation = k; says = ap malformedAt (k .lines) }
 
   pub collected-responds : (section : Section) (r : Request) (o : Opening) → Keeps r o
-      → Responds (record { conversation = record { lines = h .lines; section = section; request = r; session = h .session }; response = response.Nothing }) (collected u section o)
+      → Responds (record { conversation = record { lines = h .lines; section = section; request = r; session = h .session }; response = response.Nothing })
+      (collected u section o)
   collected-responds section r o q = record { conversation = record { lines = k .lines; section = refl; request = q; session = k .session }; says = refl }
 
   pub call-responds : (x : Call) (a : Given) → Meets x (h .session) a
-      → Responds (record { conversation = record { lines = h .lines; section = h .section; request = h .request; session = a .session }; response = response.Says (a .step) }) (calls u x)
+      → Responds (record
+      { conversation = record { lines = h .lines; section = h .section; request = h .request; session = a .session }; response = response.Says (a .step) })
+      (calls u x)
   call-responds x a m =
       let c = called (h .session) (u .opening) (u .at) (k .session) x a m in
       record { conversation = record { lines = k .lines; section = k .section; request = k .request; session = c .stands }; says = ap Answer.says (c .says) }
 
   pub open-responds : (a : Given) → Opened (openingIn (h .request)) a
-      → Responds (record { conversation = record { lines = h .lines; section = Closed; request = h .request; session = a .session }; response = response.Says (a .step) }) (opens u)
+      → Responds (record
+      { conversation = record { lines = h .lines; section = Closed; request = h .request; session = a .session }; response = response.Says (a .step) })
+      (opens u)
   open-responds a m =
       let c = opened (u .request) a (subst (λ (o : Opening). Opened o a) (k .request .same) m) in
       record { conversation = record { lines = k .lines; section = refl; request = k .request; session = c .stands }; says = ap Answer.says (c .says) }
 
-  pub asked-responds : (n : ℕ) → n ≡ count (h .session) → Responds (record { conversation = h; response = response.Asked n }) (u, Answer.count (put (whole (u .opening)) (u .at .run)))
+  pub asked-responds : (n : ℕ) → n ≡ count (h .session)
+      → Responds (record { conversation = h; response = response.Asked n }) (u, Answer.count (put (whole (u .opening)) (u .at .run)))
   asked-responds n e = record { conversation = k; says = ap Answer.count (e ∙ counts (h .session) (u .opening) (u .at) (k .session)) }
 
   -- ---- the next line
 
-  pub next-more : h .lines < 0xffff_ffff_ffff_ffff → Tracks (record { lines = h .lines + 1; section = h .section; request = h .request; session = h .session }) (nextLine u)
+  pub next-more : h .lines < 0xffff_ffff_ffff_ffff
+      → Tracks (record { lines = h .lines + 1; section = h .section; request = h .request; session = h .session }) (nextLine u)
   unfolding moreOf
   next-more l = record { lines = more (h .lines) l ∙ ap moreOf (k .lines); section = k .section; request = k .request; session = k .session }
     where
@@ -110,7 +121,7 @@ module _ (h : Held) (u : Conversation) (k : Tracks h u) where
       by response.Nothing = refl
       by (response.Malformed n) = refl
       by (response.Asked n) = refl
-      by (response.Says step) = ap (λ (p : Option Report). line (saidText (said step) p)) (reported (h .session) (u .opening) (u .at) (k .session))
+      by (response.Says step) = ap (λ (p : Option Report). line (saidText step p)) (reported (h .session) (u .opening) (u .at) (k .session))
 
 -- every response fits the buffer
 pub response-fits : (s : Session) (r : Response) → length (responseText s r) ≤ 32768
@@ -151,33 +162,41 @@ same-flags [] (m ∷ ms) e = absurd (omega arith)
 same-flags (d ∷ ds) [] e = absurd (omega arith)
 same-flags (d ∷ ds) (m ∷ ms) e = ap suc (same-flags ds ms (omega arith))
 
-replied-by : (x : State) (s : Session) (ds es : List Float) (ms ns : List Bool) (a : Given) → length es ≡ length ds → length ns ≡ length ms → arrays.entriesOf es ns ≡ arrays.entriesOf ds ms
+replied-by : (x : State) (s : Session) (ds es : List Float) (ms ns : List Bool) (a : Given) → length es ≡ length ds → length ns ≡ length ms
+    → arrays.entriesOf es ns ≡ arrays.entriesOf ds ms
     → entriesTaken x s ds ms a → entriesTaken x s es ns a
 replied-by over s ds es ms ns a e f g d = d
 replied-by (standing c) s ds es ms ns a e f g d = d
 replied-by (asking kept (done c)) s ds es ms ns a e f g d = d
 replied-by (asking kept (refuse n i)) s ds es ms ns a e f g d = d
 replied-by (asking kept (ask p w k)) s ds es ms ns a e f g d =
-    let n = wants (sizes s) w in
+    let n = wants (seen s .sizes) w in
     let same : rightLength n ds ms ≡ rightLength n es ns =
     ap (λ (x : ℕ). eqb x n && eqb (length ms) n) (sym e) ∙ ap (λ (x : ℕ). eqb (length es) n && eqb x n) (sym f) in
-    subst (λ (v : Bool). either v (Stood a (sizes s) kept (s .run .asked) (k (run.entries (arrays.entriesOf es ns)))) (Declines a s 9)) same
-    (subst (λ (l : List run.Entry). either (rightLength n ds ms) (Stood a (sizes s) kept (s .run .asked) (k (run.entries l))) (Declines a s 9)) (sym g) d)
+    subst (λ (v : Bool). either v (Stood a (seen s .sizes) kept (s .run .asked) (k (run.entries (arrays.entriesOf es ns)))) (Declines a s 9)) same
+    (subst (λ (l : List run.Entry). either (rightLength n ds ms) (Stood a (seen s .sizes) kept (s .run .asked) (k (run.entries l))) (Declines a s 9)) (sym g) d)
 
 -- the call that the line makes is met where that of the arrays is
-pub replied-same : (s : Session) (ds : List Float) (ms : List Bool) (a : Given) → length ms ≡ length ds → Replied s ds ms a → Meets (replyOf (zipEntries ds ms)) s a
+pub replied-same :
+    (s : Session) (ds : List Float) (ms : List Bool) (a : Given) → length ms ≡ length ds → Replied s ds ms a → Meets (replyOf (zipEntries ds ms)) s a
 replied-same s ds ms a e d =
-    record { is = replied-by (state s) s ds (map dropOf (zipEntries ds ms)) ms (map isMissing (zipEntries ds ms)) a (same-drops ds ms e) (same-flags ds ms e) (same-entries ds ms) (d .is) }
+    record {
+      is = replied-by (state s) s ds (map dropOf (zipEntries ds ms)) ms (map isMissing (zipEntries ds ms)) a (same-drops ds ms e) (same-flags ds ms e)
+          (same-entries ds ms) (d .is);
+    }
 
 -- ---- by the form that is read
 
-pub by-form : (l : Line) (f g : ReadForm) → formSays (entriesIn (l .reply)) f ≡ formIn l → f ≡ g → (u : Conversation) (r : Responded) → Responds r (answerTo u (formSays (entriesIn (l .reply)) g)) → Responds r (answerTo u (formIn l))
+pub by-form : (l : Line) (f g : ReadForm) → formSays (entriesIn (l .reply)) f ≡ formIn l → f ≡ g → (u : Conversation) (r : Responded)
+    → Responds r (answerTo u (formSays (entriesIn (l .reply)) g)) → Responds r (answerTo u (formIn l))
 by-form l f g e q u r d = subst (λ (x : Form). Responds r (answerTo u x)) (sym (ap (formSays (entriesIn (l .reply))) q) ∙ e) d
 
 -- what is answered stands whole in the buffer
-pub answered-fills : {out after : Text} {n : ℕ} (h : Held) (u : Conversation) → Tracks h u → (r : Response) (a : Answer) → responseSays r ≡ a → length out ≡ 32768
+pub answered-fills :
+    {out after : Text} {n : ℕ} (h : Held) (u : Conversation) → Tracks h u → (r : Response) (a : Answer) → responseSays r ≡ a → length out ≡ 32768
     → Writes out 0 after n (responseText (h .session) r) → Fills out after n (answerText u a)
 answered-fills {out} {after} {n} h u k r a e l w = subst (Fills out after n) (text-so h u k r a e) (fills (omega (arith, response-fits (h .session) r)) w)
 
-pub malformed-fills : {out after : Text} {n : ℕ} (m : ℕ) → length out ≡ 32768 → Writes out 0 after n (line (malformedText m)) → Fills out after n (line (malformedText m))
+pub malformed-fills :
+    {out after : Text} {n : ℕ} (m : ℕ) → length out ≡ 32768 → Writes out 0 after n (line (malformedText m)) → Fills out after n (line (malformedText m))
 malformed-fills {out} {after} {n} m l w = fills (omega (arith, malformed-length m, length-append (malformedText m) (10 ∷ []))) w

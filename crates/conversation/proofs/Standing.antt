@@ -15,14 +15,19 @@ use Rattle.definition.specs.Request.{Observation, Requested, Measured, Opening}
 use Rattle.definition.specs.Run.{Run, done, refuse, ask, bind, require, unless}
 use Rattle.definition.specs.Laws.{put}
 use Rattle.definition.specs.Summary.{Finished, Report}
-use Rattle.definition.specs.Whole.{faultyObservation, faultyRequested, soundPriorOf, checkedPoint, checkedCount, checkedMeasured, checkedRequested, withinOf, run, whole}
+use Rattle.definition.specs.Whole.{faultyObservation, faultyRequested, soundPriorOf, checkedPoint, checkedCount, checkedMeasured, checkedRequested}
+use Rattle.definition.specs.Whole.{withinOf, run, whole}
 use Rattle.criteria.specs.Criteria.{mvMin, mvMax, bcMin, bcMax}
-use Rattle.session.specs.Meaning.{Said, refusal, said, head, sizesFor}
-use Rattle.session.specs.Reading.{reportIn}
-use Rattle.editing.specs.Meaning.{state, Opened}
+use Rattle.definition.specs.Session.{head, sizesFor}
+use Rattle.definition.specs.declared.Step.{Step}
+use Rattle.definition.specs.declared.Step.the-variants as Step
+use Rattle.report.specs.Reading.{reportIn}
+use Rattle.editing.specs.Meaning.{state}
+use Rattle.editing.proofs.Contracts.{Opened}
 use Rattle.editing.specs.declared.Session.{Session}
 use Rattle.editing.specs.declared.Answer.{Answer}
-use Rattle.demands.specs.Calls.{Call, reply, refusePoint, change, At, first, rest, keptBy, finishedBy, finishedAt, reportBy, takingReply, takingRefusal, takingEdit, unlessDeclined, taken, due, after, dueTo}
+use Rattle.demands.specs.Calls.{Call, reply, refusePoint, change, At, first, rest, keptBy, finishedBy, finishedAt, reportBy, takingReply, takingRefusal}
+use Rattle.demands.specs.Calls.{takingEdit, unlessDeclined, taken, due, after, dueTo}
 use Rattle.demands.specs.Demands.{Meets, count}
 use Rattle.demands.specs.Standing.{Inv}
 use Rattle.demands.proofs.Demands.{Good, step, begins, report-after}
@@ -33,14 +38,14 @@ use Rattle.requests.proofs.Openings.{Both, kept-all, kept-whole}
 -- ---- a call
 
 -- what an answer comes to: where it stands, and what it says
-pub record Comes (a : Answer) (o : Opening) (t : At) (due : Said) : Type 0 where
+pub record Comes (a : Answer) (o : Opening) (t : At) (due : Step) : Type 0 where
   pub stands : Stands (a .session) o t
-  pub says : said (a .step) ≡ due
+  pub says : a .step ≡ due
 
 -- on a refused opening every call is declined
 record Idle (o : Opening) (x : Call) (n : ℕ) : Type 0 where
   stays : after o first x ≡ first
-  due : dueTo o first x ≡ refusal n 0
+  due : dueTo o first x ≡ Step.Refused n 0
 
 abbrev idleBy : Call → ℕ
 idleBy (reply ds ms) = 8
@@ -68,7 +73,7 @@ called s o t h x a m = by (h .all)
     g = step (kept o) t s (h .inv) x a m
 
     P : Opening → Type 0
-    P p = Inv (kept o) (after p t x) (a .session) × (said (a .step) ≡ dueTo p t x)
+    P p = Inv (kept o) (after p t x) (a .session) × (a .step ≡ dueTo p t x)
 
     by : (kept o ≡ o) ⊎ Refuses o t → Comes a o (after o t x) (dueTo o t x)
     by (inl e) =

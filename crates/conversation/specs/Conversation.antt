@@ -9,7 +9,8 @@ use Rattle.definition.specs.Request.{Opening}
 use Rattle.definition.specs.Laws.{put}
 use Rattle.definition.specs.Whole as edits
 use Rattle.definition.specs.Whole.{whole}
-use Rattle.session.specs.Meaning.{Said, head, moreOf}
+use Rattle.definition.specs.Session.{head, moreOf}
+use Rattle.definition.specs.declared.Step.{Step}
 use Rattle.demands.specs.Calls.{Call, reply, refusePoint, change, At, first, finishedAt, reportBy, after, dueTo}
 use Rattle.forms.specs.Lines.{Entry, missing, given, Form, malformed, entered, shot, priorSpeed, priorCoefficient, distance, openPlain, drops, refused, putIn, takeOut, exchange, asked}
 use Rattle.texts.specs.Writing.{Text}
@@ -74,7 +75,7 @@ pub data Answer : Type 0 where
   -- how many questions the run has put
   count : ℕ → Answer
   -- what is said to a call
-  says : Said → Answer
+  says : Step → Answer
 
 -- where the line leads, and what is answered
 abbrev pub Answered : Type 0

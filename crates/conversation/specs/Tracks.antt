@@ -7,8 +7,7 @@ use lib.ListN.{length, drop}
 use Rattle.definition.specs.Request.{Opening}
 use Rattle.definition.specs.Run.{refuse}
 use Rattle.definition.specs.Whole.{whole}
-use Rattle.session.specs.Meaning.{said}
-use Rattle.session.specs.Reading.{reportIn}
+use Rattle.report.specs.Reading.{reportIn}
 use Rattle.editing.specs.Meaning.{state}
 use Rattle.editing.specs.declared.Session.{Session}
 use Rattle.demands.specs.Calls.{At, first}
@@ -54,14 +53,14 @@ abbrev pub responseSays : Response → Answer
 responseSays response.Nothing = nothing
 responseSays (response.Malformed n) = malformedAt n
 responseSays (response.Asked n) = count n
-responseSays (response.Says step) = says (said step)
+responseSays (response.Says step) = says step
 
 -- by the session that the code holds
 abbrev pub responseText : Session → Response → Text
 responseText s response.Nothing = []
 responseText s (response.Malformed n) = line (malformedText n)
 responseText s (response.Asked n) = line (askedText n)
-responseText s (response.Says step) = line (saidText (said step) (reportIn (state s)))
+responseText s (response.Says step) = line (saidText step (reportIn (state s)))
 
 pub record Responds (r : Responded) (a : Answered) : Type 0 where
   pub conversation : Tracks (r .conversation) (a .0)

@@ -1,18 +1,18 @@
 // The line protocol as steps: a line of the host leads to the conversation after it, and its answer is written into a lent buffer.
 use definition::Point;
+use definition::Step;
 use editing::Answer;
 use editing::Session;
 use forms::Line;
 use forms::ReadForm;
 use forms::Sigma;
 use requests::Request;
-use session::Step;
 ghost use Rattle.definition.specs.Request.{Opening};
 ghost use Rattle.definition.specs.Whole as edits;
 ghost use mathlib.Core.Path.{_≡_};
-ghost use Rattle.session.specs.Meaning.{said};
-ghost use Rattle.session.specs.Reading.{reportIn};
-ghost use Rattle.editing.specs.Meaning.{state, Edited};
+ghost use Rattle.report.specs.Reading.{reportIn};
+ghost use Rattle.editing.specs.Meaning.{state, seen};
+ghost use Rattle.definition.specs.Session.{Edited};
 ghost use Rattle.demands.specs.Calls.{Call};
 ghost use Rattle.demands.specs.Demands.{Meets};
 ghost use Rattle.forms.specs.Lines.{entered, shot, priorSpeed, priorCoefficient, distance, openPlain, drops, refused, putIn, takeOut, exchange, asked};
@@ -241,7 +241,7 @@ fn take_refused(t: Conversation) -> Responded
 }
 
 fn put_in(s: Session, place: u64, range: f64, sigma: Sigma) -> Answer
-    ensures { λ a. ⌜ Edited s (edits.putIn place (requestedAt range (sigmaSays sigma))) a ⌝ }
+    ensures { λ a. ⌜ Edited seen s (edits.putIn place (requestedAt range (sigmaSays sigma))) (a .step) (a .session) ⌝ }
 {
     match sigma {
         Sigma::Absent => editing::put_in(s, place as usize, range, 0.0, false),
@@ -266,7 +266,7 @@ fn take_take_out(t: Conversation, place: u64) -> Responded
 }
 
 fn exchange(s: Session, place: u64, range: f64, sigma: Sigma) -> Answer
-    ensures { λ a. ⌜ Edited s (edits.exchange place (requestedAt range (sigmaSays sigma))) a ⌝ }
+    ensures { λ a. ⌜ Edited seen s (edits.exchange place (requestedAt range (sigmaSays sigma))) (a .step) (a .session) ⌝ }
 {
     match sigma {
         Sigma::Absent => editing::exchange(s, place as usize, range, 0.0, false),
@@ -346,7 +346,7 @@ pub fn start() -> Conversation
 
 // The session's answer, with its line feed.
 fn put_step(out: &mut [u8], session: Session, step: Step) -> usize
-    ensures { λ r. ⌜ Writes (now (out .entry)) 0 (now (out .exit)) r (line (saidText (said step) (reportIn (state session)))) ⌝ }
+    ensures { λ r. ⌜ Writes (now (out .entry)) 0 (now (out .exit)) r (line (saidText step (reportIn (state session)))) ⌝ }
 {
     let at = answers::put_answer(out, 0, Answer { step, session });
     texts::put_byte(out, at, 10)

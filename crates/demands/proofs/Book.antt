@@ -16,11 +16,13 @@ use Rattle.definition.specs.Whole.{whole, Edit, putIn, takeOut, exchange, edite
 use Rattle.definition.specs.Laws.{Asks}
 use Rattle.definition.specs.declared.Point.{Point}
 use Rattle.definition.proofs.Questions.{asks-now, asks-next, asks-whole, asks-edit}
-use Rattle.likelihood.specs.Arrays.{entriesOf}
+use Rattle.definition.specs.Session.{entriesOf}
 use Rattle.fresh.specs.Solver.{Solver, replyAt, hostOf, withList, fresh, BandAlone}
 use Rattle.fresh.proofs.Edits.{edit-fresh, list-kept}
 use Rattle.fresh.proofs.Reports.{only-band}
-use Rattle.session.specs.Meaning.{Said, report, refusal, head, kindOf, sizesFor, wants, rightLength}
+use Rattle.definition.specs.Session.{head, listOf, sizesFor, wants, rightLength}
+use Rattle.definition.specs.declared.Step.{Step}
+use Rattle.definition.specs.declared.Step.the-variants as Step
 use Rattle.demands.specs.Calls.{Call, reply, refusePoint, change, resume, Editing, At, first, rest, keptBy, finishedBy, finishedAt, reportBy, Taking, declines, takes, takingReply, takingRefusal, takingEdit, stance, withReply, withEdit, taken, unlessDeclined, after, due, dueTo}
 use Rattle.demands.specs.Book.{sizeOf, heard, Where, inRun, idle, inEdit, Book, isReport, opened, reports, ruledReply, ruledRefusal, ruledEdit, ruled, standsBy, settled, editHeard, runHeard, replyHeard, callHeard, booked, Question, aboutOf, questionIn, Trail, repliesWith, begun, followed, Replies, Comes, FromSolver, saidBy, reportFrom, Ends, Edits, standing, Holds}
 
@@ -35,7 +37,7 @@ not-none e = let z : _≡_ {A = ℕ} 0 1 = cc in absurd (omega arith)
 not-both : {A : Type 0} → _≡_ {A = Bool} true false → A
 not-both e = let z : _≡_ {A = ℕ} 0 1 = cc in absurd (omega arith)
 
-no-refusal : {n i : ℕ} {A : Type 0} → report ≡ refusal n i → A
+no-refusal : {n i : ℕ} {A : Type 0} → Step.Report ≡ Step.Refused n i → A
 no-refusal e = let z : _≡_ {A = ℕ} 0 1 = cc in absurd (omega arith)
 
 if-takes : (b : Bool) (n : ℕ) → cond b takes (declines n) ≡ takes → b ≡ true
@@ -79,7 +81,7 @@ module _ (o : Opening) (run : List Reply) where
 module _ (σ : Solver) (o : Opening) where
   -- the host's reply to this question is the solver's, while the session stands so
   abbrev Suits : Host → (ℕ → Where) → Point → Which → Type 0
-  Suits h at p w = (n : ℕ) → h p w ≡ replyAt σ p (aboutOf o (at n) (kindOf w))
+  Suits h at p w = (n : ℕ) → h p w ≡ replyAt σ p (aboutOf o (at n) (listOf w))
 
   -- what is left of the run comes to the fresh outcome of the opening's list
   record RunGoes (kept : Option Finished) (left : Run Finished) (list : List Requested) (replies : ℕ) : Type 0 where
@@ -125,7 +127,7 @@ pub record Agrees (σ : Solver) (o : Opening) (t : At) (u : Trail) : Type 0 wher
 -- ---- what comes next is heard
 
 -- the trail with this book, what was said and so many replies
-abbrev noted : Opening → Book → Said → ℕ → Trail
+abbrev noted : Opening → Book → Step → ℕ → Trail
 noted o b said m = record { book = b; asked = questionIn o (b .at) said; replies = m }
 
 module _ (σ : Solver) (o : Opening) where
@@ -168,10 +170,10 @@ module _ (σ : Solver) (o : Opening) where
   stops-so h (ask p w k) n all e = (λ z. not-none z, λ z. absurd (omega arith))
 
   -- an edit has ended: its finished run, the report that stands then, and what is new in it
-  abbrev Ended : Edit → Option Finished → Option Report → Said → Type 0
+  abbrev Ended : Edit → Option Finished → Option Report → Step → Type 0
   Ended e kept stands said =
       (was : Finished) × (new : Report) × (kept ≡ some was) × (stands ≡ some new)
-      × (said ≡ report → BandAlone e (reportOf was) new) × ((n i : ℕ) → said ≡ refusal n i → new ≡ reportOf was)
+      × (said ≡ Step.Report → BandAlone e (reportOf was) new) × ((n i : ℕ) → said ≡ Step.Refused n i → new ≡ reportOf was)
 
   changes-so : (e : Edit) (kept : Option Finished) (left : Run Finished) (list : List Requested) (m : ℕ) → EditGoes σ o e kept left list m
       → heard o (head left) ≡ none → Ended e kept (reportBy (finishedBy kept left)) (head left)
@@ -213,7 +215,7 @@ module _ (σ : Solver) (o : Opening) where
   reported-so kept left list asked m idle s b = s .reported b
   reported-so kept left list asked m (inEdit n e) s b = not-both (sym b)
 
-  sized-so : (w : Which) → sizeOf o (kindOf w) ≡ wants (sizesFor o) w
+  sized-so : (w : Which) → sizeOf o (listOf w) ≡ wants (sizesFor o) w
   sized-so shots = refl
   sized-so distances = refl
   sized-so (new d) = refl
@@ -416,10 +418,10 @@ module _ (σ : Solver) (o : Opening) (t : At) (u : Trail) (a : Agrees σ o t u) 
   abbrev placeBy : Taking → At
   placeBy y = unlessDeclined y t (taken o t x)
 
-  abbrev saidTo : Taking → Said
+  abbrev saidTo : Taking → Step
   saidTo y = due y (rest o (placeBy y))
 
-  abbrev trailBy : Taking → Said → Trail
+  abbrev trailBy : Taking → Step → Trail
   trailBy y said = unlessDeclined y u (noted o (unlessDeclined y (u .book) (callHeard σ o (u .book) x (heard o said))) said (repliesWith (u .replies) x))
 
   next : Agrees σ o (after o t x) (followed σ o u x (dueTo o t x))
@@ -430,18 +432,18 @@ module _ (σ : Solver) (o : Opening) (t : At) (u : Trail) (a : Agrees σ o t u) 
       by takes e = record { is = leads σ o t u a x q (agrees-ruled σ o t u a x ∙ e) }
 
   -- the book is that of the trail
-  booked-so : (y : Taking) (said : Said) → unlessDeclined y (u .book) (callHeard σ o (u .book) x (heard o said)) ≡ trailBy y said .book
+  booked-so : (y : Taking) (said : Step) → unlessDeclined y (u .book) (callHeard σ o (u .book) x (heard o said)) ≡ trailBy y said .book
   booked-so (declines n) said = refl
   booked-so takes said = refl
 
   -- what holds of the call as taken
-  as-taken : (P : At → Said → Type 0) → ruled σ o (u .book) x ≡ takes → P (taken o t x) (head (rest o (taken o t x))) → P (after o t x) (dueTo o t x)
+  as-taken : (P : At → Step → Type 0) → ruled σ o (u .book) x ≡ takes → P (taken o t x) (head (rest o (taken o t x))) → P (after o t x) (dueTo o t x)
   as-taken P e h = subst (λ (y : Taking). P (placeBy y) (saidTo y)) (sym (sym (agrees-ruled σ o t u a x) ∙ e)) h
 
-  abbrev EndsSo : Outcome Finished → Option Report → At → Said → Type 0
+  abbrev EndsSo : Outcome Finished → Option Report → At → Step → Type 0
   EndsSo f before s said = heard o said ≡ none → Ends f before said (λ p. reportBy (finishedAt o s) ≡ p)
 
-  abbrev StopsSo : ℕ → At → Said → Type 0
+  abbrev StopsSo : ℕ → At → Step → Type 0
   StopsSo all s said = (heard o said ≡ none) ↔ (repliesWith (u .replies) x ≡ all)
 
   holds : Holds σ o u x (dueTo o t x) (λ p. reportBy (finishedAt o (after o t x)) ≡ p)

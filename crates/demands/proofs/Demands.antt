@@ -22,11 +22,18 @@ use Rattle.definition.specs.declared.Point.{Point}
 use Rattle.definition.proofs.Questions.{asks-now, asks-next, asks-edit, every-new, count, count-of-edit}
 use Rattle.fitting.proofs.Laws.{bind-assoc}
 use Rattle.fresh.specs.Solver.{Solver, hostOf, fresh}
-use Rattle.likelihood.specs.Arrays.{entriesOf}
-use Rattle.session.specs.Meaning.{State, asking, standing, over, Said, question, report, refusal, said, head, Kind, ofShots, moreOf, counted, Sizes, sizesFor, wants, rightLength, either}
-use Rattle.session.specs.Meaning as meaning
-use Rattle.session.specs.Reading.{reportIn, Shows, placeIn, baselineResults}
-use Rattle.editing.specs.Meaning.{state, Sized, Stands, Declines, sizes, entriesTaken, refusalTaken, editTaken, Opened, Replied, PointRefused, Edited}
+use Rattle.definition.specs.Session.{entriesOf}
+use Rattle.definition.specs.Session.{State, asking, standing, over, head, moreOf, counted, Sizes, sizesFor, wants, rightLength, either}
+use Rattle.definition.specs.declared.Step.{Step}
+use Rattle.definition.specs.declared.Step.the-variants as Step
+use Rattle.definition.specs.declared.Distances.{Distances}
+use Rattle.definition.specs.declared.Distances.the-variants as Distances
+use Rattle.definition.specs.Session as meaning
+use Rattle.report.specs.Reading.{Shows, placeIn, baselineResults}
+use Rattle.report.specs.Reading.{reportIn}
+use Rattle.editing.specs.Meaning.{state, seen}
+use Rattle.definition.specs.Session.{Sized}
+use Rattle.editing.proofs.Contracts.{Stands, Declines, entriesTaken, refusalTaken, editTaken, Opened, Replied, PointRefused, Edited}
 use Rattle.editing.specs.declared.Session.{Session}
 use Rattle.editing.specs.declared.Answer.{Answer}
 use Rattle.demands.specs.Calls.{Call, reply, refusePoint, change, resume, Editing, At, first, restBy, rest, keptBy, finishedBy, finishedAt, reportBy, Taking, declines, takes, takingReply, takingRefusal, takingEdit, stance, withReply, withEdit, taken, unlessDeclined, after, due, dueTo}
@@ -96,11 +103,11 @@ few-replies c (takeOut i) [] p w k e = let z : _≡_ {A = ℕ} 0 1 = cc in absur
 few-replies c (takeOut i) (r ∷ rs) p w k e = let z : _≡_ {A = ℕ} 0 1 = cc in absurd (omega arith)
 few-replies c (exchange i d) rs p w k e = omega (arith, count-of-edit c (exchange i d) rs, asked-after (edit c (exchange i d)) rs p w k e)
 
-edit-asks : (o : Opening) (t : At) (x : Editing) → t .last ≡ some x → (mv bc : Float) (list : Kind) → head (rest o t) ≡ question mv bc list → length (x .replies) < mostOf (x .made)
+edit-asks : (o : Opening) (t : At) (x : Editing) → t .last ≡ some x → (mv bc : Float) (list : Distances) → head (rest o t) ≡ Step.Question mv bc list → length (x .replies) < mostOf (x .made)
 edit-asks o t x l mv bc list q =
-    by (resume (edit (x .of) (x .made)) (x .replies)) refl (subst (λ (y : Option Editing). head (restBy o (t .run) y) ≡ question mv bc list) l q)
+    by (resume (edit (x .of) (x .made)) (x .replies)) refl (subst (λ (y : Option Editing). head (restBy o (t .run) y) ≡ Step.Question mv bc list) l q)
   where
-    by : (u : Run Finished) → resume (edit (x .of) (x .made)) (x .replies) ≡ u → head u ≡ question mv bc list → length (x .replies) < mostOf (x .made)
+    by : (u : Run Finished) → resume (edit (x .of) (x .made)) (x .replies) ≡ u → head u ≡ Step.Question mv bc list → length (x .replies) < mostOf (x .made)
     by (done c) e h = let z : _≡_ {A = ℕ} 0 1 = cc in absurd (omega arith)
     by (refuse n i) e h = let z : _≡_ {A = ℕ} 0 1 = cc in absurd (omega arith)
     by (ask p w k) e h = few-replies (x .of) (x .made) (x .replies) p w k e
@@ -143,7 +150,7 @@ ofOr d (some z) = z .of
 apart : {n : ℕ} → takes ≡ declines n → ⊥
 apart q = let z : _≡_ {A = ℕ} 0 1 = cc in absurd (omega arith)
 
-no-question : {n i : ℕ} {mv bc : Float} {list : Kind} {A : Type 0} → refusal n i ≡ question mv bc list → A
+no-question : {n i : ℕ} {mv bc : Float} {list : Distances} {A : Type 0} → Step.Refused n i ≡ Step.Question mv bc list → A
 no-question q = let z : _≡_ {A = ℕ} 0 1 = cc in absurd (omega arith)
 
 numbers : {m n : ℕ} → declines m ≡ declines n → m ≡ n
@@ -183,14 +190,14 @@ module _ (o : Opening) where
     -- declined: the answer is the number, and the session as it was
     no : (c : Made) (n : ℕ) → stance o t (c .call) ≡ declines n → Declines (c .answer) s n → Good o t s c
     no c n e d =
-        let same : c .answer .session ≡ s = ap (λ (a : Answer). a .session) d in
+        let same : c .answer .session ≡ s = d .same in
         let stays : after o t (c .call) ≡ t = ap (λ (x : Taking). unlessDeclined x t (taken o t (c .call))) e in
-        let number : said (c .answer .step) ≡ refusal n 0 = ap (λ (a : Answer). said (a .step)) d in
+        let number : c .answer .step ≡ Step.Refused n 0 = d .says in
         let next : Inv o (after o t (c .call)) (c .answer .session) = subst (λ (v : At). Inv o v (c .answer .session)) (sym stays) (subst (Inv o t) (sym same) h) in
         record {
           inv = next;
           proper = record {
-            declined = λ m f. (number ∙ ap (λ (x : ℕ). refusal x 0) (numbers (sym e ∙ f)), same);
+            declined = λ m f. (number ∙ ap (λ (x : ℕ). Step.Refused x 0) (numbers (sym e ∙ f)), same);
             counted = ap stated.count same ∙ sym (ap (countedSaid (after o t (c .call) .last) (stated.count s)) number ∙ refused-counts (after o t (c .call) .last) (stated.count s) n);
             limited = limited (after o t (c .call) .run) (stated.count (c .answer .session)) (next .counts);
             edit-limited = λ x el mv bc list q. no-question (sym number ∙ q);
@@ -204,20 +211,20 @@ module _ (o : Opening) where
           };
         }
       where
-        refused-counts : (last : Option Editing) (m n : ℕ) → countedSaid last m (refusal n 0) ≡ m
+        refused-counts : (last : Option Editing) (m n : ℕ) → countedSaid last m (Step.Refused n 0) ≡ m
         refused-counts none m n = refl
         refused-counts (some x) m n = refl
 
     -- taken: the run or the edit goes on
-    yes : (c : Made) (v : At) → stance o t (c .call) ≡ takes → after o t (c .call) ≡ v → Inv o v (c .answer .session) → said (c .answer .step) ≡ head (rest o v)
-        → stated.count (c .answer .session) ≡ countedSaid (v .last) (stated.count s) (said (c .answer .step)) → Good o t s c
+    yes : (c : Made) (v : At) → stance o t (c .call) ≡ takes → after o t (c .call) ≡ v → Inv o v (c .answer .session) → c .answer .step ≡ head (rest o v)
+        → stated.count (c .answer .session) ≡ countedSaid (v .last) (stated.count s) (c .answer .step) → Good o t s c
     yes c v e goes g says counts =
         let next : Inv o (after o t (c .call)) (c .answer .session) = subst (λ (u : At). Inv o u (c .answer .session)) (sym goes) g in
         record {
           inv = next;
           proper = record {
             declined = λ n f. absurd (apart (sym e ∙ f));
-            counted = counts ∙ ap (λ (u : At). countedSaid (u .last) (stated.count s) (said (c .answer .step))) (sym goes);
+            counted = counts ∙ ap (λ (u : At). countedSaid (u .last) (stated.count s) (c .answer .step)) (sym goes);
             limited = limited (after o t (c .call) .run) (stated.count (c .answer .session)) (next .counts);
             edit-limited = λ x el mv bc list q. edit-asks o (after o t (c .call)) x el mv bc list (ap (λ (u : At). head (rest o u)) goes ∙ sym says ∙ q);
             edits = λ x st ex el. edits-of t s h (c .call) x st ex el;
@@ -232,8 +239,8 @@ module _ (o : Opening) where
 
   -- one reply more
   replies : (rs : List Reply) (last : Option Editing) (s : Session) → Inv o (record { run = rs; last = last }) s → (r : Reply) (p : Point) (w : Which) (k : Reply → Run Finished)
-      → rest o (record { run = rs; last = last }) ≡ ask p w k → (a : Answer) → Stands a (sizes s) (keptBy last) (stated.count s) (k r)
-      → Inv o (withReply rs last r) (a .session) × (stated.count (a .session) ≡ countedSaid (withReply rs last r .last) (stated.count s) (said (a .step)))
+      → rest o (record { run = rs; last = last }) ≡ ask p w k → (a : Answer) → Stands a (seen s .sizes) (keptBy last) (stated.count s) (k r)
+      → Inv o (withReply rs last r) (a .session) × (stated.count (a .session) ≡ countedSaid (withReply rs last r .last) (stated.count s) (a .step))
   replies rs none s h r p w k at a d =
       let goes : rest o (withReply rs none r) ≡ k r = rest-more o rs none r p w k at in
       let small : stated.count s ≤ 4546 = limited rs (stated.count s) (h .counts) in (
@@ -261,12 +268,12 @@ module _ (o : Opening) where
     at-state : (u : Run Finished) → rest o t ≡ u → state s ≡ meaning.after (keptBy (t .last)) u
     at-state u e = h .leads ∙ ap (meaning.after (keptBy (t .last))) e
 
-    by-wants : (p : Point) (w : Which) (k : Reply → Run Finished) → rest o t ≡ ask p w k → wants (sizes s) w ≡ wants (sizesFor o) w
-    by-wants p w k e = same-wants (t .last) p w k (sizesFor o) (sizes s) (h .sized) (subst (News (t .last)) e (h .news))
+    by-wants : (p : Point) (w : Which) (k : Reply → Run Finished) → rest o t ≡ ask p w k → wants (seen s .sizes) w ≡ wants (sizesFor o) w
+    by-wants p w k e = same-wants (t .last) p w k (sizesFor o) (seen s .sizes) (h .sized) (subst (News (t .last)) e (h .news))
 
     -- a reply that is taken
     took : (c : Made) (r : Reply) (p : Point) (w : Which) (k : Reply → Run Finished) → rest o t ≡ ask p w k → stance o t (c .call) ≡ takes → taken o t (c .call) ≡ withReply (t .run) (t .last) r
-        → Stands (c .answer) (sizes s) (keptBy (t .last)) (stated.count s) (k r) → Good o t s c
+        → Stands (c .answer) (seen s .sizes) (keptBy (t .last)) (stated.count s) (k r) → Good o t s c
     took c r p w k at e same d =
         let goes : after o t (c .call) ≡ withReply (t .run) (t .last) r = ap (λ (x : Taking). unlessDeclined x t (taken o t (c .call))) e ∙ same in
         let next = replies (t .run) (t .last) s h r p w k at (c .answer) d in
@@ -292,11 +299,11 @@ module _ (o : Opening) where
         let f : stance o t (reply ds ms) ≡ declines 8 = ap (λ (u : Run Finished). takingReply (sizesFor o) u ds ms) e in
         no t s h _ 8 f (replied-closed ds ms a (keptBy (t .last)) (refuse n i) (subst (λ (x : State). entriesTaken x s ds ms a) (at-state (refuse n i) e) (m .is)) refl)
     replied ds ms a m (ask p w k) e =
-        by (rightLength (wants (sizes s) w) ds ms)
+        by (rightLength (wants (seen s .sizes) w) ds ms)
         (ap (λ (u : Run Finished). takingReply (sizesFor o) u ds ms) e ∙ ap (λ (n : ℕ). cond (rightLength n ds ms) takes (declines 9)) (sym (by-wants p w k e)))
         (subst (λ (x : State). entriesTaken x s ds ms a) (at-state (ask p w k) e) (m .is))
       where
-        by : (b : Bool) → stance o t (reply ds ms) ≡ cond b takes (declines 9) → either b (Stands a (sizes s) (keptBy (t .last)) (stated.count s) (k (entries (entriesOf ds ms)))) (Declines a s 9)
+        by : (b : Bool) → stance o t (reply ds ms) ≡ cond b takes (declines 9) → either b (Stands a (seen s .sizes) (keptBy (t .last)) (stated.count s) (k (entries (entriesOf ds ms)))) (Declines a s 9)
             → Good o t s (record { call = reply ds ms; answer = a })
         by true f d = took _ (entries (entriesOf ds ms)) p w k e f refl d
         by false f d = no t s h _ 9 f d
@@ -338,7 +345,7 @@ module _ (o : Opening) where
         v : At
         v = record { run = t .run; last = some (record { of = c; made = e; replies = [] }) }
 
-        by : (b : Bool) → stance o t (change e) ≡ cond b takes (declines 15) → either b (Stands a (sizes s) (some c) (stated.count s) (edit c e)) (Declines a s 15)
+        by : (b : Bool) → stance o t (change e) ≡ cond b takes (declines 15) → either b (Stands a (seen s .sizes) (some c) (stated.count s) (edit c e)) (Declines a s 15)
             → Good o t s (record { call = change e; answer = a })
         by true g d =
             yes t s h _ v g (ap (λ (x : Taking). unlessDeclined x t (taken o t (change e))) g ∙ ap (λ (x : Option Finished). withEdit t x e) f)
@@ -367,7 +374,7 @@ module _ (o : Opening) where
   by-checks t e = checks-first ∙ ap (λ (x : Run (Unit {0})). bind x (λ u. run (o .measured) (o .requested))) e
 
   -- a run begins with the question at the entered point
-  asks-first : head (run (o .measured) (o .requested)) ≡ question (o .measured .entered .mv) (o .measured .entered .bc) ofShots
+  asks-first : head (run (o .measured) (o .requested)) ≡ Step.Question (o .measured .entered .mv) (o .measured .entered .bc) Distances.Shots
   unfolding run fit.fitMap likelihood.objective
   asks-first = refl
 
@@ -404,13 +411,13 @@ demand-2 o a m cs ch = (opens-as-defined o a m, walk-2 o first a cs (begins o a 
 
 module _ (σ : Solver) (o : Opening) where
   -- what holds of what is due holds of what was said, read as the session shows it
-  reads-end : (f : _) (before : Option Report) (x y : Said) (s : Session) (r : Option Report) → y ≡ x → ReadsAs s r → Ends f before x (λ p. r ≡ p) → Ends f before y (ReadsAs s)
+  reads-end : (f : _) (before : Option Report) (x y : Step) (s : Session) (r : Option Report) → y ≡ x → ReadsAs s r → Ends f before x (λ p. r ≡ p) → Ends f before y (ReadsAs s)
   reads-end f before x y s r e d h = record { says = e ∙ h .says; reads = subst (ReadsAs s) (h .reads) d }
 
-  holds-said : (u : Trail) (c : Made) (x : Said) (r : Option Report) → said (c .answer .step) ≡ x → ReadsAs (c .answer .session) r → Holds σ o u (c .call) x (λ p. r ≡ p)
-      → Holds σ o u (c .call) (said (c .answer .step)) (ReadsAs (c .answer .session))
+  holds-said : (u : Trail) (c : Made) (x : Step) (r : Option Report) → c .answer .step ≡ x → ReadsAs (c .answer .session) r → Holds σ o u (c .call) x (λ p. r ≡ p)
+      → Holds σ o u (c .call) (c .answer .step) (ReadsAs (c .answer .session))
   holds-said u c x r e d h =
-      let Q : Said → Type 0 = λ y. Holds σ o u (c .call) y (ReadsAs (c .answer .session)) in
+      let Q : Step → Type 0 = λ y. Holds σ o u (c .call) y (ReadsAs (c .answer .session)) in
       subst Q (sym e)
       (record {
         run-stops = h .run-stops;
@@ -477,20 +484,20 @@ module _ (σ : Solver) (o : Opening) where
               };
         },
         walk-3 (after o t (c .call)) (nextTrail σ o u c) (beforeEdit σ o u old (a .session) (c .call)) (c .answer) cs (k .inv)
-            (subst (λ (x : Said). Agrees σ o (after o t (c .call)) (followed σ o u (c .call) x)) (sym says) (agrees-next σ o t u g (c .call) (f .0))) now (m .1) (f .1),
+            (subst (λ (x : Step). Agrees σ o (after o t (c .call)) (followed σ o u (c .call) x)) (sym says) (agrees-next σ o t u g (c .call) (f .0))) now (m .1) (f .1),
       )
 
 pub demand-3 : Demand3
 demand-3 σ o a m cs ch f =
-    let says : said (a .step) ≡ head (whole o) = m .is .says in
+    let says : a .step ≡ head (whole o) = m .is .says in
     let opens = agrees-opened σ o in
     let reads = inv-reads o first (a .session) (begins o a m) in (
       record {
-        stops = subst (λ (x : Said). (heard o x ≡ none) ↔ (0 ≡ questions (hostOf σ o) (whole o))) (sym says) (opened-stops σ o);
-        ends = λ e. reads-end σ o _ none (head (whole o)) (said (a .step)) (a .session) _ says reads (opens .0 (ap (heard o) (sym says) ∙ e));
-        stands = subst (ReadsAs (a .session)) (opens .1 ∙ ap (λ (x : Said). standsWith σ o (opened o (heard o x))) (sym says)) reads;
+        stops = subst (λ (x : Step). (heard o x ≡ none) ↔ (0 ≡ questions (hostOf σ o) (whole o))) (sym says) (opened-stops σ o);
+        ends = λ e. reads-end σ o _ none (head (whole o)) (a .step) (a .session) _ says reads (opens .0 (ap (heard o) (sym says) ∙ e));
+        stands = subst (ReadsAs (a .session)) (opens .1 ∙ ap (λ (x : Step). standsWith σ o (opened o (heard o x))) (sym says)) reads;
       },
-      walk-3 σ o first (begun o (said (a .step))) (a .session) a cs (begins o a m) (subst (λ (x : Said). Agrees σ o first (begun o x)) (sym says) (agrees-first σ o))
+      walk-3 σ o first (begun o (a .step)) (a .session) a cs (begins o a m) (subst (λ (x : Step). Agrees σ o first (begun o x)) (sym says) (agrees-first σ o))
           (λ x e. let z : _≡_ {A = ℕ} 0 1 = cc in absurd (omega arith)) ch f,
     )
 
@@ -498,18 +505,18 @@ demand-3 σ o a m cs ch f =
 
 module _ (σ : Solver) (o : Opening) where
   all-due : (t : At) (u : Trail) (a : Answer) (cs : List Made) → Inv o t (a .session) → Chained a cs → example.AllDue σ o t u (map (λ c. c .call) cs)
-      → (map (λ c. example.brief (said (c .answer .step))) cs ≡ example.told o t (map (λ c. c .call) cs)) × AllFrom σ o u cs
+      → (map (λ c. example.brief (c .answer .step)) cs ≡ example.told o t (map (λ c. c .call) cs)) × AllFrom σ o u cs
   all-due t u a [] h m d = (refl, tt)
   all-due t u a (c ∷ cs) h m d =
       let k = step o t (a .session) h (c .call) (c .answer) (m .0) in
       let says = k .defined .says in
       let r = all-due (after o t (c .call)) (followed σ o u (c .call) (dueTo o t (c .call))) (c .answer) cs (k .inv) (m .1) (d .1) in (
-        ap (λ (x : Said). example.brief x ∷ map (λ e. example.brief (said (e .answer .step))) cs) says ∙ ap (λ (l : List example.Brief). example.brief (dueTo o t (c .call)) ∷ l) (r .0),
-        (d .0, subst (λ (x : Said). AllFrom σ o (followed σ o u (c .call) x) cs) (sym says) (r .1)),
+        ap (λ (x : Step). example.brief x ∷ map (λ e. example.brief (e .answer .step)) cs) says ∙ ap (λ (l : List example.Brief). example.brief (dueTo o t (c .call)) ∷ l) (r .0),
+        (d .0, subst (λ (x : Step). AllFrom σ o (followed σ o u (c .call) x) cs) (sym says) (r .1)),
       )
 
   pub as-due : (a : Answer) → Opened o a → (cs : List Made) → Chained a cs → (xs : List Call) → map (λ c. c .call) cs ≡ xs → example.AllDue σ o first (begun o (head (whole o))) xs
-      → (map (λ c. example.brief (said (c .answer .step))) cs ≡ example.told o first xs) × AllFrom σ o (begun o (said (a .step))) cs
+      → (map (λ c. example.brief (c .answer .step)) cs ≡ example.told o first xs) × AllFrom σ o (begun o (a .step)) cs
   as-due a m cs ch xs e d =
       let r = all-due first (begun o (head (whole o))) a cs (begins o a m) ch (subst (example.AllDue σ o first (begun o (head (whole o)))) (sym e) d) in
-      (r .0 ∙ ap (example.told o first) e, subst (λ (x : Said). AllFrom σ o (begun o x) cs) (sym (m .is .says)) (r .1))
+      (r .0 ∙ ap (example.told o first) e, subst (λ (x : Step). AllFrom σ o (begun o x) cs) (sym (m .is .says)) (r .1))

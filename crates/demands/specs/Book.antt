@@ -13,9 +13,13 @@ use Rattle.definition.specs.Host.{Outcome, ends, refuses, questions}
 use Rattle.definition.specs.Summary.{Finished, Report, reportOf, rangesOf}
 use Rattle.definition.specs.Whole.{Edit, putIn, takeOut, exchange, edited, placed, edit, whole}
 use Rattle.definition.specs.declared.Point.{Point}
-use Rattle.likelihood.specs.Arrays.{entriesOf}
+use Rattle.definition.specs.Session.{entriesOf}
 use Rattle.fresh.specs.Solver.{Solver, replyAt, distancesOf, hostOf, withList, fresh}
-use Rattle.session.specs.Meaning.{Said, question, report, refusal, Kind, ofShots, ofDistances, ofNew, rightLength}
+use Rattle.definition.specs.Session.{rightLength}
+use Rattle.definition.specs.declared.Step.{Step}
+use Rattle.definition.specs.declared.Step.the-variants as Step
+use Rattle.definition.specs.declared.Distances.{Distances}
+use Rattle.definition.specs.declared.Distances.the-variants as Distances
 use Rattle.demands.specs.Calls.{Call, reply, refusePoint, change, Taking, declines, takes, unlessDeclined}
 
 -- ---- what the book hears
@@ -24,15 +28,15 @@ use Rattle.demands.specs.Calls.{Call, reply, refusePoint, change, Taking
 abbrev pub Heard : Type 0
 Heard = Option ℕ
 
-abbrev pub sizeOf : Opening → Kind → ℕ
-sizeOf o ofShots = length (o .measured .observations)
-sizeOf o ofDistances = length (o .requested)
-sizeOf o ofNew = 1
+abbrev pub sizeOf : Opening → Distances → ℕ
+sizeOf o Distances.Shots = length (o .measured .observations)
+sizeOf o Distances.Requested = length (o .requested)
+sizeOf o Distances.New = 1
 
-abbrev pub heard : Opening → Said → Heard
-heard o (question mv bc list) = some (sizeOf o list)
-heard o report = none
-heard o (refusal n i) = none
+abbrev pub heard : Opening → Step → Heard
+heard o (Step.Question mv bc list) = some (sizeOf o list)
+heard o Step.Report = none
+heard o (Step.Refused n i) = none
 
 -- ---- the book
 
@@ -125,15 +129,15 @@ newOf (inEdit n (putIn i d)) = d .range ∷ []
 newOf (inEdit n (takeOut i)) = []
 newOf (inEdit n (exchange i d)) = d .range ∷ []
 
-abbrev pub aboutOf : Opening → Where → Kind → List Float
-aboutOf o at ofShots = rangesOf (o .measured .observations)
-aboutOf o at ofDistances = distancesOf (o .requested)
-aboutOf o at ofNew = newOf at
+abbrev pub aboutOf : Opening → Where → Distances → List Float
+aboutOf o at Distances.Shots = rangesOf (o .measured .observations)
+aboutOf o at Distances.Requested = distancesOf (o .requested)
+aboutOf o at Distances.New = newOf at
 
-abbrev pub questionIn : Opening → Where → Said → Option Question
-questionIn o at (question mv bc list) = some (record { point = record { mv = mv; bc = bc }; about = aboutOf o at list })
-questionIn o at report = none
-questionIn o at (refusal n i) = none
+abbrev pub questionIn : Opening → Where → Step → Option Question
+questionIn o at (Step.Question mv bc list) = some (record { point = record { mv = mv; bc = bc }; about = aboutOf o at list })
+questionIn o at Step.Report = none
+questionIn o at (Step.Refused n i) = none
 
 -- the book, the question that is open, and how many replies the run, or the last edit, has taken
 pub record Trail : Type 0 where
@@ -147,10 +151,10 @@ repliesWith n (reply ds ms) = suc n
 repliesWith n refusePoint = suc n
 repliesWith n (change e) = 0
 
-abbrev pub begun : Opening → Said → Trail
+abbrev pub begun : Opening → Step → Trail
 begun o said = let b = opened o (heard o said) in record { book = b; asked = questionIn o (b .at) said; replies = 0 }
 
-abbrev pub followed : Solver → Opening → Trail → Call → Said → Trail
+abbrev pub followed : Solver → Opening → Trail → Call → Step → Trail
 followed σ o t x said =
     let b = booked σ o (t .book) x (heard o said) in
     unlessDeclined (ruled σ o (t .book) x) t (record { book = b; asked = questionIn o (b .at) said; replies = repliesWith (t .replies) x })
@@ -172,9 +176,9 @@ FromSolver σ o t (change e) = Unit {0}
 -- ---- what demand 3 says of a call
 
 -- how an outcome is told
-abbrev pub saidBy : Outcome Finished → Said
-saidBy (ends c) = report
-saidBy (refuses n i) = refusal n i
+abbrev pub saidBy : Outcome Finished → Step
+saidBy (ends c) = Step.Report
+saidBy (refuses n i) = Step.Refused n i
 
 -- the report once it is told: a refusal leaves the one before
 abbrev pub reportFrom : Option Report → Outcome Finished → Option Report
@@ -182,7 +186,7 @@ reportFrom before (ends c) = some (reportOf c)
 reportFrom before (refuses n i) = before
 
 -- what was said is this outcome, and so is what is read then
-pub record Ends (f : Outcome Finished) (before : Option Report) (said : Said) (Reads : Option Report → Type 0) : Type 0 where
+pub record Ends (f : Outcome Finished) (before : Option Report) (said : Step) (Reads : Option Report → Type 0) : Type 0 where
   pub says : said ≡ saidBy f
   pub reads : Reads (reportFrom before f)
 
@@ -198,7 +202,7 @@ module _ (σ : Solver) (o : Opening) where
   standing b = cond (standsBy σ o (b .at)) (reportFrom none (fresh σ o (b .list))) none
 
   -- where a call found this trail, this was said to it, and this is what is read then
-  pub record Holds (u : Trail) (x : Call) (said : Said) (Reads : Option Report → Type 0) : Type 0 where
+  pub record Holds (u : Trail) (x : Call) (said : Step) (Reads : Option Report → Type 0) : Type 0 where
     -- the run does end: with the reply to the last question that the definition's play of it puts, and with no other
     pub run-stops : (n : ℕ) → u .book .at ≡ inRun n → ruled σ o (u .book) x ≡ takes
         → (heard o said ≡ none) ↔ (repliesWith (u .replies) x ≡ questions (hostOf σ o) (whole o))

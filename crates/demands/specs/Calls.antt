@@ -9,8 +9,10 @@ use Rattle.definition.specs.Request.{Opening}
 use Rattle.definition.specs.Run.{Run, done, refuse, ask, Reply, refused, entries}
 use Rattle.definition.specs.Summary.{Finished, Report, reportOf}
 use Rattle.definition.specs.Whole.{whole, Edit, placed, edit}
-use Rattle.likelihood.specs.Arrays.{entriesOf}
-use Rattle.session.specs.Meaning.{Said, refusal, head, Sizes, sizesFor, wants, rightLength}
+use Rattle.definition.specs.Session.{entriesOf}
+use Rattle.definition.specs.Session.{head, Sizes, sizesFor, wants, rightLength}
+use Rattle.definition.specs.declared.Step.{Step}
+use Rattle.definition.specs.declared.Step.the-variants as Step
 
 -- ---- the calls
 
@@ -119,9 +121,9 @@ abbrev pub after : Opening → At → Call → At
 after o t x = unlessDeclined (stance o t x) t (taken o t x)
 
 -- what is to be said: the number of a declined call, or what the run or the edit comes to next
-abbrev pub due : Taking → Run Finished → Said
-due (declines n) t = refusal n 0
+abbrev pub due : Taking → Run Finished → Step
+due (declines n) t = Step.Refused n 0
 due takes t = head t
 
-abbrev pub dueTo : Opening → At → Call → Said
+abbrev pub dueTo : Opening → At → Call → Step
 dueTo o t x = due (stance o t x) (rest o (after o t x))

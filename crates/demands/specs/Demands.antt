@@ -17,10 +17,16 @@ use Rattle.fresh.specs.Solver.{Solver, hostOf, fresh, BandAlone}
 use Rattle.report.specs.Places.{resultSays, bandAtSays}
 use Rattle.report.specs.declared.ResultAt.{ResultAt}
 use Rattle.report.specs.declared.BandAt.{BandAt}
-use Rattle.session.specs.Meaning.{Said, question, report, refusal, said, head, Kind, ofShots}
-use Rattle.session.specs.Reading.{Shows, placeIn, baselineResults}
-use Rattle.session.specs.declared.Shown.{Shown}
-use Rattle.editing.specs.Meaning.{Opened, Replied, PointRefused, Edited, ReportRead, ResultRead, BaselineResultRead, BandRead}
+use Rattle.definition.specs.Session.{head}
+use Rattle.definition.specs.declared.Step.{Step}
+use Rattle.definition.specs.declared.Step.the-variants as Step
+use Rattle.definition.specs.declared.Distances.{Distances}
+use Rattle.definition.specs.declared.Distances.the-variants as Distances
+use Rattle.report.specs.Reading.{Shows, placeIn, baselineResults}
+use Rattle.report.specs.declared.Shown.{Shown}
+use Rattle.editing.specs.Meaning.{state, seen}
+use Rattle.definition.specs.Session.{Opened, Replied, PointRefused, Edited}
+use Rattle.report.specs.Reading.{ReportRead, ResultRead, BaselineResultRead, BandRead}
 use Rattle.editing.specs.declared.Session.{Session}
 use Rattle.editing.specs.declared.Answer.{Answer}
 use Rattle.demands.specs.Calls.{Call, reply, refusePoint, change, Editing, At, first, rest, finishedAt, reportBy, declines, takes, stance, unlessDeclined, after, dueTo}
@@ -35,9 +41,9 @@ pub record Made : Type 0 where
 
 -- the contract of the call, which the code is proved to meet: src/lib.rt has every call with its promise
 abbrev pub Meets : Call → Session → Answer → Type 0
-Meets (reply ds ms) s a = Replied s ds ms a
-Meets refusePoint s a = PointRefused s a
-Meets (change e) s a = Edited s e a
+Meets (reply ds ms) s a = Replied seen s ds ms (a .step) (a .session)
+Meets refusePoint s a = PointRefused seen s (a .step) (a .session)
+Meets (change e) s a = Edited seen s e (a .step) (a .session)
 
 -- each call is made on the session that the one before gave back
 abbrev pub Chained : Answer → List Made → Type 0
@@ -50,18 +56,18 @@ Throughout P o t s [] = Unit {0}
 Throughout P o t s (c ∷ cs) = P t s c × Throughout P o (after o t (c .call)) (c .answer .session) cs
 
 abbrev pub Whatever : (Opening → Answer → Type 0) → (Opening → At → Session → Made → Type 0) → Type 0
-Whatever First P = (o : Opening) (a : Answer) → Opened o a → (cs : List Made) → Chained a cs → First o a × Throughout (P o) o first (a .session) cs
+Whatever First P = (o : Opening) (a : Answer) → Opened seen o (a .step) (a .session) → (cs : List Made) → Chained a cs → First o a × Throughout (P o) o first (a .session) cs
 
 -- what the calls that read this session give is this report, in its head and in each place of its lists, or that there is none
 pub record ReadsAs (s : Session) (p : Option Report) : Type 0 where
-  pub heads : (r : Shown) → ReportRead s r → Shows r p
-  pub results : (i : ℕ) (r : ResultAt) → ResultRead s i r → resultSays r ≡ placeIn (λ q. q .observations) i p
-  pub baseline-results : (i : ℕ) (r : ResultAt) → BaselineResultRead s i r → resultSays r ≡ placeIn baselineResults i p
-  pub bands : (i : ℕ) (r : BandAt) → BandRead s i r → bandAtSays r ≡ placeIn (λ q. q .bands) i p
+  pub heads : (r : Shown) → ReportRead (state s) r → Shows r p
+  pub results : (i : ℕ) (r : ResultAt) → ResultRead (state s) i r → resultSays r ≡ placeIn (λ q. q .observations) i p
+  pub baseline-results : (i : ℕ) (r : ResultAt) → BaselineResultRead (state s) i r → resultSays r ≡ placeIn baselineResults i p
+  pub bands : (i : ℕ) (r : BandAt) → BandRead (state s) i r → bandAtSays r ≡ placeIn (λ q. q .bands) i p
 
 -- what the call that reads the count of questions gives
 abbrev pub count : Session → ℕ
-count s = s .run .asked
+count s = seen s .asked
 
 -- ---- demand 1: every call ends properly, whatever is replied
 
@@ -70,14 +76,14 @@ checked o = bind (checkedMeasured (o .measured)) (λ u. checkedRequested (o .req
 
 -- a faulty request gets its number and position, and a sound one the first question
 pub record OpensProperly (o : Opening) (a : Answer) : Type 0 where
-  pub faulty : (n i : ℕ) → checked o ≡ refuse n i → (said (a .step) ≡ refusal n i) × (count (a .session) ≡ 0)
-  pub sound : checked o ≡ done tt → (said (a .step) ≡ question (o .measured .entered .mv) (o .measured .entered .bc) ofShots) × (count (a .session) ≡ 1)
+  pub faulty : (n i : ℕ) → checked o ≡ refuse n i → (a .step ≡ Step.Refused n i) × (count (a .session) ≡ 0)
+  pub sound : checked o ≡ done tt → (a .step ≡ Step.Question (o .measured .entered .mv) (o .measured .entered .bc) Distances.Shots) × (count (a .session) ≡ 1)
 
 -- the count with what is said now: in the run a question counts, in an edit it does not
-abbrev pub countedSaid : Option Editing → ℕ → Said → ℕ
-countedSaid none n (question mv bc list) = suc n
-countedSaid none n report = n
-countedSaid none n (refusal m i) = n
+abbrev pub countedSaid : Option Editing → ℕ → Step → ℕ
+countedSaid none n (Step.Question mv bc list) = suc n
+countedSaid none n Step.Report = n
+countedSaid none n (Step.Refused m i) = n
 countedSaid (some x) n said = n
 
 -- the most questions that an edit puts: the five about a new distance, and none where one is taken out
@@ -88,12 +94,12 @@ mostOf (exchange i d) = 5
 
 pub record EndsProperly (o : Opening) (t : At) (s : Session) (c : Made) : Type 0 where
   -- a call that was not due gets its number and changes nothing
-  pub declined : (n : ℕ) → stance o t (c .call) ≡ declines n → (said (c .answer .step) ≡ refusal n 0) × (c .answer .session ≡ s)
+  pub declined : (n : ℕ) → stance o t (c .call) ≡ declines n → (c .answer .step ≡ Step.Refused n 0) × (c .answer .session ≡ s)
   -- the count rises by one exactly where the run's answer is a question, and stays within its limit, so that no run puts more questions
-  pub counted : count (c .answer .session) ≡ countedSaid (after o t (c .call) .last) (count s) (said (c .answer .step))
+  pub counted : count (c .answer .session) ≡ countedSaid (after o t (c .call) .last) (count s) (c .answer .step)
   pub limited : count (c .answer .session) ≤ 4546
   -- a question of an edit comes after fewer replies than it puts questions at the most: so it puts no more, and ends with the fifth reply if not before
-  pub edit-limited : (x : Editing) → after o t (c .call) .last ≡ some x → (mv bc : Float) (list : Kind) → said (c .answer .step) ≡ question mv bc list
+  pub edit-limited : (x : Editing) → after o t (c .call) .last ≡ some x → (mv bc : Float) (list : Distances) → c .answer .step ≡ Step.Question mv bc list
       → length (x .replies) < mostOf (x .made)
   -- an edit that is let through is of the report that stands, and one that ends in a refusal restores it
   pub edits : (x : Editing) → stance o t (c .call) ≡ takes → c .call ≡ change (x .made) → after o t (c .call) .last ≡ some x → ReadsAs s (some (reportOf (x .of)))
@@ -106,13 +112,13 @@ Demand1 = Whatever OpensProperly EndsProperly
 -- ---- demand 2: every question and the whole report, or the lack of one, are the definition's, whatever is replied
 
 pub record OpensAsDefined (o : Opening) (a : Answer) : Type 0 where
-  pub says : said (a .step) ≡ head (whole o)
+  pub says : a .step ≡ head (whole o)
   pub counts : count (a .session) ≡ put (whole o) []
   pub reads : ReadsAs (a .session) (reportBy (finishedAt o first))
 
 -- what is said, the number of questions that the run has put, and the report
 pub record AsDefined (o : Opening) (t : At) (s : Session) (c : Made) : Type 0 where
-  pub says : said (c .answer .step) ≡ dueTo o t (c .call)
+  pub says : c .answer .step ≡ dueTo o t (c .call)
   pub counts : count (c .answer .session) ≡ put (whole o) (after o t (c .call) .run)
   pub reads : ReadsAs (c .answer .session) (reportBy (finishedAt o (after o t (c .call))))
 
@@ -123,15 +129,15 @@ Demand2 = Whatever OpensAsDefined AsDefined
 -- ---- demand 3: the run and each edit end as a fresh run does, whatever pointwise solver the taken replies come from
 
 -- an edit has ended, and this was said: what is read on the session that it was made on, and what is read then
-pub record Changes (e : Edit) (before : Session) (said : Said) (after : Session) : Type 0 where
+pub record Changes (e : Edit) (before : Session) (said : Step) (after : Session) : Type 0 where
   pub old : Report
   pub new : Report
   pub reads-old : ReadsAs before (some old)
   pub reads-new : ReadsAs after (some new)
   -- only the band concerned and the outside-domain warning change
-  pub made : said ≡ report → BandAlone e old new
+  pub made : said ≡ Step.Report → BandAlone e old new
   -- a refused edit changes nothing
-  pub refused : (n i : ℕ) → said ≡ refusal n i → new ≡ old
+  pub refused : (n i : ℕ) → said ≡ Step.Refused n i → new ≡ old
 
 -- the session that the last edit was made on
 abbrev pub editedFrom : Session → Session → Call → Session
@@ -142,7 +148,7 @@ editedFrom old s (change e) = s
 module _ (σ : Solver) (o : Opening) where
   -- the trail goes by the calls and what was said to them
   abbrev pub nextTrail : Trail → Made → Trail
-  nextTrail u c = followed σ o u (c .call) (said (c .answer .step))
+  nextTrail u c = followed σ o u (c .call) (c .answer .step)
 
   -- every reply that is taken comes from the solver
   abbrev pub AllFrom : Trail → List Made → Type 0
@@ -151,18 +157,18 @@ module _ (σ : Solver) (o : Opening) where
 
   -- where the opening is refused, that is its list's fresh outcome; it is refused where the definition's play puts no question
   pub record OpensFresh (a : Answer) : Type 0 where
-    pub stops : (heard o (said (a .step)) ≡ none) ↔ (0 ≡ questions (hostOf σ o) (whole o))
-    pub ends : heard o (said (a .step)) ≡ none → Ends (fresh σ o (o .requested)) none (said (a .step)) (ReadsAs (a .session))
-    pub stands : ReadsAs (a .session) (standing σ o (opened o (heard o (said (a .step)))))
+    pub stops : (heard o (a .step) ≡ none) ↔ (0 ≡ questions (hostOf σ o) (whole o))
+    pub ends : heard o (a .step) ≡ none → Ends (fresh σ o (o .requested)) none (a .step) (ReadsAs (a .session))
+    pub stands : ReadsAs (a .session) (standing σ o (opened o (heard o (a .step))))
 
   pub record EndsFresh (u : Trail) (before s : Session) (c : Made) : Type 0 where
     -- where the book's rules place 8, 9, 14 and 15, they come and change nothing
-    pub declined : (n : ℕ) → ruled σ o (u .book) (c .call) ≡ declines n → (said (c .answer .step) ≡ refusal n 0) × (c .answer .session ≡ s)
+    pub declined : (n : ℕ) → ruled σ o (u .book) (c .call) ≡ declines n → (c .answer .step ≡ Step.Refused n 0) × (c .answer .session ≡ s)
     -- the run's end, an edit's end, and the report that stands
-    pub holds : Holds σ o u (c .call) (said (c .answer .step)) (ReadsAs (c .answer .session))
+    pub holds : Holds σ o u (c .call) (c .answer .step) (ReadsAs (c .answer .session))
     -- from the report before an edit to the one after, only the band concerned and the outside-domain warning may change
-    pub changes : (e : Edit) → Edits (u .book) (c .call) e → ruled σ o (u .book) (c .call) ≡ takes → heard o (said (c .answer .step)) ≡ none
-        → Changes e before (said (c .answer .step)) (c .answer .session)
+    pub changes : (e : Edit) → Edits (u .book) (c .call) e → ruled σ o (u .book) (c .call) ≡ takes → heard o (c .answer .step) ≡ none
+        → Changes e before (c .answer .step) (c .answer .session)
 
   -- the session that the last edit was made on, this call included
   abbrev pub beforeEdit : Trail → Session → Session → Call → Session
@@ -176,5 +182,5 @@ module _ (σ : Solver) (o : Opening) where
 -- Theorem `demand-3`.
 abbrev pub Demand3 : Type 0
 Demand3 =
-    (σ : Solver) (o : Opening) (a : Answer) → Opened o a → (cs : List Made) → Chained a cs → AllFrom σ o (begun o (said (a .step))) cs
-    → OpensFresh σ o a × Along σ o (begun o (said (a .step))) (a .session) (a .session) cs
+    (σ : Solver) (o : Opening) (a : Answer) → Opened seen o (a .step) (a .session) → (cs : List Made) → Chained a cs → AllFrom σ o (begun o (a .step)) cs
+    → OpensFresh σ o a × Along σ o (begun o (a .step)) (a .session) (a .session) cs

@@ -14,9 +14,14 @@ use Rattle.definition.specs.Figures.{number, requested}
 use Rattle.definition.specs.RunFigures.{byMv, byBc, allThree, entered}
 use Rattle.definition.specs.declared.Point.{Point}
 use Rattle.fresh.specs.Solver.{Solver, fresh}
-use Rattle.session.specs.Meaning.{Said, question, report, refusal, said, head, Kind, ofShots, ofDistances, ofNew}
+use Rattle.definition.specs.Session.{head}
+use Rattle.definition.specs.declared.Step.{Step}
+use Rattle.definition.specs.declared.Step.the-variants as Step
+use Rattle.definition.specs.declared.Distances.{Distances}
+use Rattle.definition.specs.declared.Distances.the-variants as Distances
 use Rattle.demands.specs.Calls.{Call, reply, refusePoint, change, At, first, after, dueTo}
-use Rattle.editing.specs.Meaning.{Opened}
+use Rattle.editing.specs.Meaning.{seen}
+use Rattle.definition.specs.Session.{Opened}
 use Rattle.editing.specs.declared.Answer.{Answer}
 use Rattle.demands.specs.Book.{Book, idle, isReport, Trail, begun, followed, FromSolver}
 use Rattle.demands.specs.Demands.{Made, Chained, AllFrom}
@@ -35,14 +40,14 @@ module _ (σ : Solver) (o : Opening) where
 
 -- what is said, without the point of a question
 pub data Brief : Type 0 where
-  asks : Kind → Brief
+  asks : Distances → Brief
   reports : Brief
   refuses : ℕ → ℕ → Brief
 
-abbrev pub brief : Said → Brief
-brief (question mv bc list) = asks list
-brief report = reports
-brief (refusal n i) = refuses n i
+abbrev pub brief : Step → Brief
+brief (Step.Question mv bc list) = asks list
+brief Step.Report = reports
+brief (Step.Refused n i) = refuses n i
 
 abbrev pub told : Opening → At → List Call → List Brief
 told o t [] = []
@@ -89,24 +94,24 @@ gap = reply (zero64 ∷ []) (true ∷ [])
 -- declined, and after it two replies and an edit beyond the list.
 abbrev pub run : List Line
 run =
-    three 10 20 32 gets asks ofShots
+    three 10 20 32 gets asks Distances.Shots
     ∷ change (takeOut 1) gets refuses 14 0
-    ∷ three 10 20 32 gets asks ofShots
-    ∷ three 12 20 32 gets asks ofShots
+    ∷ three 10 20 32 gets asks Distances.Shots
+    ∷ three 12 20 32 gets asks Distances.Shots
     ∷ one 8 gets refuses 9 0
-    ∷ three 8 20 32 gets asks ofShots
-    ∷ three 10 23 32 gets asks ofShots
-    ∷ three 10 17 32 gets asks ofShots
-    ∷ three 10 20 32 gets asks ofShots
-    ∷ three 12 20 32 gets asks ofShots
-    ∷ three 8 20 32 gets asks ofShots
-    ∷ three 10 23 32 gets asks ofShots
-    ∷ three 10 17 32 gets asks ofDistances
-    ∷ two 10 32 gets asks ofDistances
-    ∷ two 12 32 gets asks ofDistances
-    ∷ two 8 32 gets asks ofDistances
-    ∷ two 10 32 gets asks ofDistances
-    ∷ two 10 32 gets asks ofShots
+    ∷ three 8 20 32 gets asks Distances.Shots
+    ∷ three 10 23 32 gets asks Distances.Shots
+    ∷ three 10 17 32 gets asks Distances.Shots
+    ∷ three 10 20 32 gets asks Distances.Shots
+    ∷ three 12 20 32 gets asks Distances.Shots
+    ∷ three 8 20 32 gets asks Distances.Shots
+    ∷ three 10 23 32 gets asks Distances.Shots
+    ∷ three 10 17 32 gets asks Distances.Requested
+    ∷ two 10 32 gets asks Distances.Requested
+    ∷ two 12 32 gets asks Distances.Requested
+    ∷ two 8 32 gets asks Distances.Requested
+    ∷ two 10 32 gets asks Distances.Requested
+    ∷ two 10 32 gets asks Distances.Shots
     ∷ three 10 20 32 gets reports
     ∷ three 10 20 32 gets refuses 8 0
     ∷ refusePoint gets refuses 8 0
@@ -116,22 +121,22 @@ run =
 -- no drop is there so far off
 abbrev pub refusedEdit : List Line
 refusedEdit =
-    change (exchange 2 (requested 350)) gets asks ofNew
-    ∷ gap gets asks ofNew
-    ∷ gap gets asks ofNew
-    ∷ gap gets asks ofNew
-    ∷ gap gets asks ofNew
+    change (exchange 2 (requested 350)) gets asks Distances.New
+    ∷ gap gets asks Distances.New
+    ∷ gap gets asks Distances.New
+    ∷ gap gets asks Distances.New
+    ∷ gap gets asks Distances.New
     ∷ gap gets refuses 13 2
     ∷ []
 
 abbrev pub takenEdit : List Line
 takenEdit =
-    change (putIn 2 (requested 200)) gets asks ofNew
-    ∷ one 20 gets asks ofNew
+    change (putIn 2 (requested 200)) gets asks Distances.New
+    ∷ one 20 gets asks Distances.New
     ∷ change (takeOut 1) gets refuses 14 0
-    ∷ one 20 gets asks ofNew
-    ∷ one 20 gets asks ofNew
-    ∷ one 23 gets asks ofNew
+    ∷ one 20 gets asks Distances.New
+    ∷ one 20 gets asks Distances.New
+    ∷ one 23 gets asks Distances.New
     ∷ one 17 gets reports
     ∷ []
 
@@ -166,5 +171,5 @@ pub record Example : Type 0 where
 -- Theorem `example-met`: whatever meets the contracts says that to these calls, and then the hypothesis of demand 3 holds of them.
 abbrev pub ExampleMet : Type 0
 ExampleMet =
-    (a : Answer) → Opened opening a → (cs : List Made) → Chained a cs → map (λ c. c .call) cs ≡ map callOf all
-    → (map (λ c. brief (said (c .answer .step))) cs ≡ map briefOf all) × AllFrom solver opening (begun opening (said (a .step))) cs
+    (a : Answer) → Opened seen opening (a .step) (a .session) → (cs : List Made) → Chained a cs → map (λ c. c .call) cs ≡ map callOf all
+    → (map (λ c. brief (c .answer .step)) cs ≡ map briefOf all) × AllFrom solver opening (begun opening (a .step)) cs

@@ -7,9 +7,10 @@ use Rattle.definition.specs.Laws.{Asks, put}
 use Rattle.definition.specs.Summary.{Finished}
 use Rattle.definition.specs.Whole.{whole}
 use Rattle.definition.specs.declared.Point.{Point}
-use Rattle.session.specs.Meaning as meaning
-use Rattle.session.specs.Meaning.{sizesFor}
-use Rattle.editing.specs.Meaning.{state, Sized, sizes}
+use Rattle.definition.specs.Session as meaning
+use Rattle.definition.specs.Session.{sizesFor}
+use Rattle.editing.specs.Meaning.{state, seen}
+use Rattle.definition.specs.Session.{Sized}
 use Rattle.editing.specs.declared.Session.{Session}
 use Rattle.demands.specs.Calls.{Editing, At, rest, keptBy}
 use Rattle.demands.specs.Demands.{count}
@@ -26,6 +27,6 @@ News (some x) t = Asks IsNew 5 t
 
 pub record Inv (o : Opening) (t : At) (s : Session) : Type 0 where
   pub leads : state s ≡ meaning.after (keptBy (t .last)) (rest o t)
-  pub sized : Sized (keptBy (t .last)) (sizesFor o) (sizes s)
+  pub sized : Sized (keptBy (t .last)) (sizesFor o) (seen s .sizes)
   pub news : News (t .last) (rest o t)
   pub counts : count s ≡ put (whole o) (t .run)

@@ -6,11 +6,13 @@ use editing::Answer;
 use editing::Session;
 use report::BandAt;
 use report::ResultAt;
-use session::Shown;
+use report::Shown;
 ghost use mathlib.Core.Path.{_≡_};
 ghost use Rattle.definition.specs.Whole as Edit;
-ghost use Rattle.session.specs.Opening.{openingOf, wantedAt};
-ghost use Rattle.editing.specs.Meaning.{Opened, ReportRead, ResultRead, BaselineResultRead, BandRead};
+ghost use Rattle.opening.specs.Opening.{openingOf, wantedAt};
+ghost use Rattle.editing.specs.Meaning.{state, seen};
+ghost use Rattle.definition.specs.Session.{Opened};
+ghost use Rattle.report.specs.Reading.{ReportRead, ResultRead, BaselineResultRead, BandRead};
 ghost use Rattle.demands.specs.Calls as Call;
 ghost use Rattle.demands.specs.Demands.{Meets, count};
 
@@ -26,7 +28,7 @@ pub fn open<'a>(
     future: &'a [f64],
     given: &'a [bool],
 ) -> Answer
-    ensures { λ r. ⌜ Opened (openingOf entered (now (ranges .entry)) (now (drops .entry)) (now (sigmas .entry)) priors (now (distances .entry)) (now (future .entry)) (now (given .entry))) r ⌝ }
+    ensures { λ r. ⌜ Opened seen (openingOf entered (now (ranges .entry)) (now (drops .entry)) (now (sigmas .entry)) priors (now (distances .entry)) (now (future .entry)) (now (given .entry))) (r .step) (r .session) ⌝ }
 {
     editing::open(
         entered,
@@ -79,25 +81,25 @@ pub fn asked(s: Session) -> u64
 }
 
 pub fn report(s: Session) -> Shown
-    ensures { λ r. ⌜ ReportRead s r ⌝ }
+    ensures { λ r. ⌜ ReportRead (state s) r ⌝ }
 {
     editing::report(s)
 }
 
 pub fn observation_result(s: Session, i: usize) -> ResultAt
-    ensures { λ r. ⌜ ResultRead s i r ⌝ }
+    ensures { λ r. ⌜ ResultRead (state s) i r ⌝ }
 {
     editing::observation_result(s, i)
 }
 
 pub fn baseline_result(s: Session, i: usize) -> ResultAt
-    ensures { λ r. ⌜ BaselineResultRead s i r ⌝ }
+    ensures { λ r. ⌜ BaselineResultRead (state s) i r ⌝ }
 {
     editing::baseline_result(s, i)
 }
 
 pub fn predictive_band(s: Session, i: usize) -> BandAt
-    ensures { λ r. ⌜ BandRead s i r ⌝ }
+    ensures { λ r. ⌜ BandRead (state s) i r ⌝ }
 {
     editing::predictive_band(s, i)
 }

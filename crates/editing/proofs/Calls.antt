@@ -1,109 +1,117 @@
 -- The calls over plain sessions. The functions' proofs cite these.
 use Prim.Native.Nat.{ℕ, zero, suc, _≤_, _<_}
 use mathlib.Core.Path.{_≡_, refl, sym, ap, _∙_, subst}
-use mathlib.Core.Bool.{Bool, true, false, cond, not, _&&_}
+use mathlib.Core.Bool.{Bool, true, false, not, _&&_}
 use mathlib.Core.List.{List, [], _∷_, map}
 use mathlib.Core.Option.{Option, none, some}
 use native.Mathlib.Omega.{arith}
-use borrow.Author.Tests.{lt-ltb, le-ltb, not-true, not-false}
-use lib.Dec.{T, ltb}
+use borrow.Author.Tests.{lt-ltb, le-ltb}
+use lib.Dec.{ltb}
 use lib.ListN.{length, getD}
 use lib.Ieee.{Float, nan}
 use Rattle.definition.specs.Request.{Requested, Opening}
-use Rattle.definition.specs.Run.{Run, done, refuse, ask, bind, require, answered, Reply, refused, entries, Reading, readingOf, dropOr0, Which, new}
+use Rattle.definition.specs.Run.{Run, done, refuse, ask, bind, require, answered, refused, entries, Reading, readingOf, dropOr0, Which, new}
 use Rattle.definition.specs.Likelihood.{Rows, slope, slopes, mvStepOf, bcStepOf}
 use Rattle.definition.specs.Lists.{firstOf}
 use Rattle.definition.specs.Summary.{Finished}
 use Rattle.definition.specs.Whole.{Edit, putIn, takeOut, exchange, placed, renewed, noRows, soundRequestedOf}
 use Rattle.definition.specs.Whole as whole
 use Rattle.definition.specs.declared.Point.{Point}
-use Rattle.likelihood.specs.Arrays.{entryOf, entriesOf}
-use Rattle.report.specs.Places.{requestedAt, resultSays, bandAtSays}
+use Rattle.definition.specs.Session.{entriesOf}
+use Rattle.report.specs.Places.{requestedAt}
 use Rattle.report.specs.declared.ResultAt.{ResultAt}
 use Rattle.report.specs.declared.BandAt.{BandAt}
 use Rattle.report.specs.declared.ResultAt.the-variants as ResultAt
 use Rattle.report.specs.declared.BandAt.the-variants as BandAt
-use Rattle.session.specs.Meaning.{State, asking, standing, over, after, pointAt, rowsNext, stencilNext, sizesOf, wants, either, rightLength}
+use Rattle.stencil.specs.Stencil.{pointAt, rowsNext, stencilNext, fiveRow, laidRows, oneRows}
+use Rattle.session.specs.Meaning.{sizesOf}
+use Rattle.stencil.proofs.Laws.{one-next}
 use Rattle.session.specs.Meaning as run
-use Rattle.session.specs.Opening.{wantedAt, futureOf, sigmaOr0}
-use Rattle.session.specs.Changing.{editOf, rangeOf, roomy, rowsFrom, fittedIn, fittedSays, Changed}
-use Rattle.session.specs.Reading.{reportIn, Shows, placeIn, baselineResults}
-use Rattle.session.specs.Reading as reading
-use Rattle.session.specs.declared.Change.{Change}
-use Rattle.session.specs.declared.Change.the-variants.{PutIn, TakeOut, Exchange}
+use Rattle.session.proofs.Laws.{right-lengths}
+use Rattle.opening.specs.Opening.{wantedAt}
+use Rattle.lists.specs.Lists.{sigmaOr0}
+use Rattle.lists.specs.Changing.{editOf, rangeOf}
+use Rattle.lists.specs.declared.Change.{Change}
+use Rattle.lists.specs.declared.Change.the-variants.{PutIn, Exchange}
+use Rattle.lists.proofs.Arrays.{stored-sigma}
+use Rattle.session.specs.Changing.{fittedIn, fittedSays, Changed}
+use Rattle.report.specs.Reading.{Shows, placeIn, baselineResults, reportIn, ReportRead, ResultRead, BaselineResultRead, BandRead}
 use Rattle.session.specs.declared.Fitted.{Fitted}
 use Rattle.session.specs.declared.Fitted.the-variants.{Unfitted, FittedAt}
-use Rattle.session.specs.declared.Shown.{Shown}
-use Rattle.session.specs.declared.Shown.the-variants as Shown
+use Rattle.report.specs.declared.Shown.{Shown}
+use Rattle.report.specs.declared.Shown.the-variants as Shown
 use Rattle.session.specs.declared.Session.{Session as Running}
 use Rattle.session.specs.declared.Answer.{Answer as RunAnswer}
-use Rattle.session.specs.declared.Step.the-variants.{Report, Refused}
-use Rattle.session.proofs.OpenLaws.{stored-sigma}
-use Rattle.editing.specs.Meaning.{oneRows, puts, opens, endedWith, editLeft, openIn, state, Stands, Declines, sizes, entriesTaken, refusalTaken, editTaken, ofRun, closedWith, asksWith, askedAt, newly, nextLeft, openPoint, Opened, Replied, PointRefused, Edited, ReportRead, ResultRead, BaselineResultRead, BandRead}
-use Rattle.editing.specs.declared.One.{One}
+use Rattle.definition.specs.declared.Step.the-variants.{Report, Refused}
+use Rattle.editing.specs.Meaning.{opens, endedWith, editLeft, openIn, state, ofRun, closedWith, asksWith, askedAt, newly, nextLeft, openPoint}
+use Rattle.stencil.specs.declared.OneRow.{OneRow}
 use Rattle.editing.specs.declared.OpenEdit.{OpenEdit}
 use Rattle.editing.specs.declared.Editing.{Editing}
 use Rattle.editing.specs.declared.Editing.the-variants.{Closed, Asks}
 use Rattle.editing.specs.declared.Session.{Session}
 use Rattle.editing.specs.declared.Answer.{Answer}
 use Rattle.editing.proofs.Laws.{state-closed, state-asks, reached, Fits, open-state, open-none, open-unfitted, no-point, Open, a-point, refused-stands, changed-stands, asks-stands, stands-same, stands-as, change-made}
+use Rattle.definition.specs.Session.{Sizes, State, asking, either, over, rightLength, standing, wants}
+use Rattle.editing.proofs.Contracts.{Stands, Declines, entriesTaken, refusalTaken, editTaken, Opened, Replied, PointRefused, Edited, RunStands, RunDeclines, runEntriesTaken, runRefusalTaken, RunOpened, RunReplied, RunPointRefused}
 
 -- ---- no edit is open: the call is the run's
 
-run-stands : (x : RunAnswer) (z : run.Sizes) (kept : Option Finished) (n : ℕ) (t : Run Finished) → run.Stands x z kept n t → Stands (ofRun x) z kept n t
-run-stands x z none n t d = record { leads = d .leads; says = d .says; counts = d .counts; sized = d .sized }
-run-stands x z (some c) n t d = record { leads = d .leads; says = d .says; counts = d .counts; sized = tt }
+run-stands : (x : RunAnswer) (z : Sizes) (kept : Option Finished) (n : ℕ) (t : Run Finished) → RunStands x z kept n t → Stands (ofRun x) z kept n t
+run-stands x z kept n t d = record { leads = d .leads; says = d .says; counts = d .counts; sized = d .sized }
 
-pub run-opened : (o : Opening) (x : RunAnswer) (a : Answer) → run.Opened o x → a ≡ ofRun x → Opened o a
+pub run-opened : (o : Opening) (x : RunAnswer) (a : Answer) → RunOpened o x → a ≡ ofRun x → Opened o a
 run-opened o x a d e = record { is = stands-as e (run-stands x _ none 0 (whole.whole o) (d .is)) }
 
 module _ (s : Session) (shut : s .edit ≡ Closed) where
-  declined-same : (x : RunAnswer) (n : ℕ) → run.Declines x (s .run) n → Declines (ofRun x) s n
-  declined-same x n d = ap ofRun d ∙ ap (λ (x : Editing). record { step = Refused n 0; session = record { run = s .run; edit = x } }) (sym shut)
+  declined-same : (x : RunAnswer) (n : ℕ) → RunDeclines x (s .run) n → Declines (ofRun x) s n
+  declined-same x n d = record {
+    says = d .says;
+    same = ap (λ (r : Running). record { run = r; edit = Closed }) (d .same) ∙ ap (λ (y : Editing). record { run = s .run; edit = y }) (sym shut);
+  }
 
-  lifted : (ds : List Float) (ms : List Bool) (x : RunAnswer) (t : State) → run.entriesTaken t (s .run) ds ms x → entriesTaken t s ds ms (ofRun x)
+  lifted : (ds : List Float) (ms : List Bool) (x : RunAnswer) (t : State) → runEntriesTaken t (s .run) ds ms x → entriesTaken t s ds ms (ofRun x)
   lifted ds ms x over d = declined-same x 8 d
   lifted ds ms x (standing c) d = declined-same x 8 d
   lifted ds ms x (asking kept (done c)) d = declined-same x 8 d
   lifted ds ms x (asking kept (refuse n i)) d = declined-same x 8 d
-  lifted ds ms x (asking kept (ask p w k)) d = by (rightLength (wants (sizes s) w) ds ms) d
+  lifted ds ms x (asking kept (ask p w k)) d = by (rightLength (wants (sizesOf (s .run .body)) w) ds ms) d
     where
-      by : (b : Bool) → either b (run.Stands x (sizes s) kept (s .run .asked) (k (entries (entriesOf ds ms)))) (run.Declines x (s .run) 9)
-          → either b (Stands (ofRun x) (sizes s) kept (s .run .asked) (k (entries (entriesOf ds ms)))) (Declines (ofRun x) s 9)
-      by true d = run-stands x (sizes s) kept (s .run .asked) (k (entries (entriesOf ds ms))) d
+      by : (b : Bool) → either b (RunStands x (sizesOf (s .run .body)) kept (s .run .asked) (k (entries (entriesOf ds ms)))) (RunDeclines x (s .run) 9)
+          → either b (Stands (ofRun x) (sizesOf (s .run .body)) kept (s .run .asked) (k (entries (entriesOf ds ms)))) (Declines (ofRun x) s 9)
+      by true d = run-stands x (sizesOf (s .run .body)) kept (s .run .asked) (k (entries (entriesOf ds ms))) d
       by false d = declined-same x 9 d
 
-  lifted-refusal : (x : RunAnswer) (t : State) → run.refusalTaken t (s .run) x → refusalTaken t s (ofRun x)
+  lifted-refusal : (x : RunAnswer) (t : State) → runRefusalTaken t (s .run) x → refusalTaken t s (ofRun x)
   lifted-refusal x over d = declined-same x 8 d
   lifted-refusal x (standing c) d = declined-same x 8 d
   lifted-refusal x (asking kept (done c)) d = declined-same x 8 d
   lifted-refusal x (asking kept (refuse n i)) d = declined-same x 8 d
-  lifted-refusal x (asking kept (ask p w k)) d = run-stands x (sizes s) kept (s .run .asked) (k refused) d
+  lifted-refusal x (asking kept (ask p w k)) d = run-stands x (sizesOf (s .run .body)) kept (s .run .asked) (k refused) d
 
-  pub run-replied : (ds : List Float) (ms : List Bool) (x : RunAnswer) (a : Answer) → run.Replied (s .run) ds ms x → a ≡ ofRun x → Replied s ds ms a
+  pub run-replied : (ds : List Float) (ms : List Bool) (x : RunAnswer) (a : Answer) → RunReplied (s .run) ds ms x → a ≡ ofRun x → Replied s ds ms a
   run-replied ds ms x a d e = record {
     is =
         subst (λ (r : Answer). entriesTaken (state s) s ds ms r) (sym e)
         (subst (λ (t : State). entriesTaken t s ds ms (ofRun x)) (sym (state-closed s shut)) (lifted ds ms x (run.state (s .run)) (d .is)));
   }
 
-  pub run-refused : (x : RunAnswer) (a : Answer) → run.PointRefused (s .run) x → a ≡ ofRun x → PointRefused s a
+  pub run-refused : (x : RunAnswer) (a : Answer) → RunPointRefused (s .run) x → a ≡ ofRun x → PointRefused s a
   run-refused x a d e = record {
     is =
         subst (λ (r : Answer). refusalTaken (state s) s r) (sym e)
         (subst (λ (t : State). refusalTaken t s (ofRun x)) (sym (state-closed s shut)) (lifted-refusal x (run.state (s .run)) (d .is)));
   }
 
-  pub run-report : (r : Shown) → reading.ReportRead (s .run) r → ReportRead s r
+  pub run-report : (r : Shown) → ReportRead (run.state (s .run)) r → ReportRead (state s) r
   run-report r d = record { is = subst (λ (t : State). Shows r (reportIn t)) (sym (state-closed s shut)) (d .is) }
 
-  pub run-result : (i : ℕ) (r : ResultAt) → reading.ResultRead (s .run) i r → ResultRead s i r
+  pub run-result : (i : ℕ) (r : ResultAt) → ResultRead (run.state (s .run)) i r → ResultRead (state s) i r
   run-result i r d = record { is = d .is ∙ ap (λ (t : State). placeIn (λ p. p .observations) i (reportIn t)) (sym (state-closed s shut)) }
 
-  pub run-baseline : (i : ℕ) (r : ResultAt) → reading.BaselineResultRead (s .run) i r → BaselineResultRead s i r
+  pub run-baseline : (i : ℕ) (r : ResultAt) → BaselineResultRead (run.state (s .run)) i r → BaselineResultRead (state s) i r
   run-baseline i r d = record { is = d .is ∙ ap (λ (t : State). placeIn baselineResults i (reportIn t)) (sym (state-closed s shut)) }
 
-  pub run-band : (i : ℕ) (r : BandAt) → reading.BandRead (s .run) i r → BandRead s i r
+  pub run-band : (i : ℕ) (r : BandAt) → BandRead (run.state (s .run)) i r → BandRead (state s) i r
   run-band i r d = record { is = d .is ∙ ap (λ (t : State). placeIn (λ p. p .bands) i (reportIn t)) (sym (state-closed s shut)) }
 
   pub run-fitted : (f : Fitted) → fittedSays f ≡ fittedIn (run.state (s .run)) → fittedSays f ≡ fittedIn (state s)
@@ -115,16 +123,16 @@ module _ (s : Session) (x : OpenEdit) (asks : s .edit ≡ Asks x) where
   nothing : reportIn (state s) ≡ none
   nothing = ap reportIn (state-asks s x asks) ∙ open-none (run.state (s .run)) x
 
-  pub open-report : ReportRead s Shown.Absent
+  pub open-report : ReportRead (state s) Shown.Absent
   open-report = record { is = subst (λ (p : Option _). Shows Shown.Absent p) (sym nothing) tt }
 
-  pub open-result : (i : ℕ) → ResultRead s i ResultAt.Absent
+  pub open-result : (i : ℕ) → ResultRead (state s) i ResultAt.Absent
   open-result i = record { is = sym (ap (placeIn (λ p. p .observations) i) nothing) }
 
-  pub open-baseline : (i : ℕ) → BaselineResultRead s i ResultAt.Absent
+  pub open-baseline : (i : ℕ) → BaselineResultRead (state s) i ResultAt.Absent
   open-baseline i = record { is = sym (ap (placeIn baselineResults i) nothing) }
 
-  pub open-band : (i : ℕ) → BandRead s i BandAt.Absent
+  pub open-band : (i : ℕ) → BandRead (state s) i BandAt.Absent
   open-band i = record { is = sym (ap (placeIn (λ p. p .bands) i) nothing) }
 
   pub open-fitted : none ≡ fittedIn (state s)
@@ -153,16 +161,17 @@ module _ (s : Running) (x : OpenEdit) where
           (subst (λ (b : Bool). either b (Stands a (sizesOf (s .body)) (some (here .of)) (s .asked) (reached (here .of) x (entries (entriesOf ds ms)))) (Declines a (asksWith s x) 9)) (sym l) d);
     }
 
-    pub one-more : (ds : List Float) (ms : List Bool) (a : Answer) (one : One) → rightLength 1 ds ms ≡ true
-        → oneRows one ≡ rowsNext (x .answered) p (oneRows (x .one)) (readingOf (entriesOf ds ms))
+    pub one-more : (ds : List Float) (ms : List Bool) (a : Answer) (one : OneRow) → rightLength 1 ds ms ≡ true
+        → oneRows one ≡ laidRows (fiveRow (x .answered)) p (entriesOf ds ms) (oneRows (x .one))
         → ((c : Finished) → run.state s ≡ standing c → c .fit .point ≡ p → Fits c (x .change) → Stands a (sizesOf (s .body)) (some c) (s .asked) (nextLeft c (x .change) (x .answered) p (oneRows one)))
         → Replied (asksWith s x) ds ms a
     one-more ds ms a one l rows d =
         let c = here .of in
         let k = x .answered in
         let w : Which = new (rangeOf (x .change)) in
+        let lengths = right-lengths 1 ds ms l in
         let same : nextLeft c (x .change) k p (oneRows one) ≡ reached c x (entries (entriesOf ds ms)) =
-        ap (nextLeft c (x .change) k p) rows
+        ap (nextLeft c (x .change) k p) (rows ∙ one-next k p ds ms (lengths .0) (lengths .1) (x .one))
         ∙ ap (λ (q : Point). bind (stencilNext k q w (rowsNext k q (oneRows (x .one)) (readingOf (entriesOf ds ms)))) (endedWith c (editOf (x .change)))) (sym (here .point)) in
         record {
           is =
@@ -229,12 +238,12 @@ module _ (s : Session) (f : Fitted) (says : fittedSays f ≡ fittedIn (state s))
     c : Finished
     c = there .of
 
-    by-place : (e : Edit) (a : Answer) (b : Bool) → placed e n ≡ b → either b (Stands a (sizes s) (some c) (s .run .asked) (whole.edit c e)) (Declines a s 15) → Edited s e a
+    by-place : (e : Edit) (a : Answer) (b : Bool) → placed e n ≡ b → either b (Stands a (sizesOf (s .run .body)) (some c) (s .run .asked) (whole.edit c e)) (Declines a s 15) → Edited s e a
     unfolding c
     by-place e a b q d = record {
       is =
           subst (λ (t : State). editTaken t s e a) (sym (there .stands))
-          (subst (λ (m : Bool). either m (Stands a (sizes s) (some (there .of)) (s .run .asked) (whole.edit (there .of) e)) (Declines a s 15)) (sym (ap (placed e) (there .size) ∙ q)) d);
+          (subst (λ (m : Bool). either m (Stands a (sizesOf (s .run .body)) (some (there .of)) (s .run .asked) (whole.edit (there .of) e)) (Declines a s 15)) (sym (ap (placed e) (there .size) ∙ q)) d);
     }
 
     -- 15
@@ -321,55 +330,3 @@ module _ (s : Session) (f : Fitted) (says : fittedSays f ≡ fittedIn (state s))
         (stands-as e
         (changed-stands (s .run) (there .of) (there .runs) r (renewed (there .of) (takeOut place) noRows)
         (change-made (s .run) r (there .of) (takeOut place) rows (there .runs) (ap (placed (takeOut place)) (there .size) ∙ q) refl d)))
-
--- ---- the one entry of a reply
-
-pub one-drop : (ds : List Float) (ms : List Bool) (x : Float) → length ds ≡ 1 → length ms ≡ 1 → x ≡ dropOr0 (entryOf (getD ds 0 nan) (getD ms 0 false)) → map dropOr0 (entriesOf ds ms) ≡ x ∷ []
-one-drop [] ms x l m e = absurd (omega arith)
-one-drop (d ∷ ds) [] x l m e = absurd (omega arith)
-one-drop (d ∷ []) (f ∷ []) x l m e = ap (λ (y : Float). y ∷ []) (sym e)
-one-drop (d ∷ []) (f ∷ g ∷ ms) x l m e = absurd (omega arith)
-one-drop (d ∷ b ∷ ds) (f ∷ ms) x l m e = absurd (omega arith)
-
-module _ (d : Reading) (one : One) (p : Point) (x : Float) (drops : d .drops ≡ x ∷ []) where
-  abbrev oneOf : Float → Float → Float → ℕ → One
-  oneOf predicted byMv byBc gap = record { predicted = predicted; «by_mv» = byMv; «by_bc» = byBc; gap = gap }
-
-  pub nominal-one : (k gap : ℕ) → k ≡ 0 → gap ≡ d .gap → oneRows (oneOf x (one .«by_mv») (one .«by_bc») gap) ≡ rowsNext k p (oneRows one) d
-  nominal-one zero gap z g = λ i. record { predicted = sym drops i; byMv = one .«by_mv» ∷ []; byBc = one .«by_bc» ∷ []; gap = g i }
-  nominal-one (suc k) gap z g = absurd (omega arith)
-
-  module _ (gap : ℕ) (g : gap ≡ firstOf (one .gap) (d .gap)) where
-    pub mv-plus-one : (k : ℕ) → k ≡ 1 → oneRows (oneOf (one .predicted) x (one .«by_bc») gap) ≡ rowsNext k p (oneRows one) d
-    mv-plus-one zero z = absurd (omega arith)
-    mv-plus-one (suc zero) z = λ i. record { predicted = one .predicted ∷ []; byMv = sym drops i; byBc = one .«by_bc» ∷ []; gap = g i }
-    mv-plus-one (suc (suc k)) z = absurd (omega arith)
-
-    sloped : (step was : Float) → slope step was x ∷ [] ≡ slopes step (was ∷ []) (d .drops)
-    sloped step was = ap (slopes step (was ∷ [])) (sym drops)
-
-    pub mv-minus-one : (k : ℕ) (step y : Float) → k ≡ 2 → step ≡ mvStepOf (p .mv) → y ≡ slope step (one .«by_mv») x
-        → oneRows (oneOf (one .predicted) y (one .«by_bc») gap) ≡ rowsNext k p (oneRows one) d
-    mv-minus-one zero step y z s e = absurd (omega arith)
-    mv-minus-one (suc zero) step y z s e = absurd (omega arith)
-    mv-minus-one (suc (suc zero)) step y z s e =
-        let q = ap (λ (v : Float). v ∷ []) (e ∙ ap (λ (v : Float). slope v (one .«by_mv») x) s) ∙ sloped (mvStepOf (p .mv)) (one .«by_mv») in
-        λ i. record { predicted = one .predicted ∷ []; byMv = q i; byBc = one .«by_bc» ∷ []; gap = g i }
-    mv-minus-one (suc (suc (suc k))) step y z s e = absurd (omega arith)
-
-    pub bc-plus-one : (k : ℕ) → k ≡ 3 → oneRows (oneOf (one .predicted) (one .«by_mv») x gap) ≡ rowsNext k p (oneRows one) d
-    bc-plus-one zero z = absurd (omega arith)
-    bc-plus-one (suc zero) z = absurd (omega arith)
-    bc-plus-one (suc (suc zero)) z = absurd (omega arith)
-    bc-plus-one (suc (suc (suc zero))) z = λ i. record { predicted = one .predicted ∷ []; byMv = one .«by_mv» ∷ []; byBc = sym drops i; gap = g i }
-    bc-plus-one (suc (suc (suc (suc k)))) z = absurd (omega arith)
-
-    pub bc-minus-one : (k : ℕ) (step y : Float) → (k ≡ 0 → ⊥) → (k ≡ 1 → ⊥) → (k ≡ 2 → ⊥) → (k ≡ 3 → ⊥) → step ≡ bcStepOf (p .bc) → y ≡ slope step (one .«by_bc») x
-        → oneRows (oneOf (one .predicted) (one .«by_mv») y gap) ≡ rowsNext k p (oneRows one) d
-    bc-minus-one zero step y n0 n1 n2 n3 s e = absurd (n0 refl)
-    bc-minus-one (suc zero) step y n0 n1 n2 n3 s e = absurd (n1 refl)
-    bc-minus-one (suc (suc zero)) step y n0 n1 n2 n3 s e = absurd (n2 refl)
-    bc-minus-one (suc (suc (suc zero))) step y n0 n1 n2 n3 s e = absurd (n3 refl)
-    bc-minus-one (suc (suc (suc (suc k)))) step y n0 n1 n2 n3 s e =
-        let q = ap (λ (v : Float). v ∷ []) (e ∙ ap (λ (v : Float). slope v (one .«by_bc») x) s) ∙ sloped (bcStepOf (p .bc)) (one .«by_bc») in
-        λ i. record { predicted = one .predicted ∷ []; byMv = one .«by_mv» ∷ []; byBc = q i; gap = g i }

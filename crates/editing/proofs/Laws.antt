@@ -1,37 +1,38 @@
 -- Sessions over plain values: the state with no edit open and with one, and what is left of an edit.
 use Prim.Native.Nat.{ℕ, zero, suc, _+_, _≤_, _<_}
 use mathlib.Core.Path.{_≡_, refl, sym, ap, _∙_, subst}
-use mathlib.Core.Bool.{Bool, true, false, cond, not, _&&_}
-use mathlib.Core.List.{List, [], _∷_}
+use mathlib.Core.Bool.{Bool, true, false, cond, _&&_}
 use mathlib.Core.Option.{Option, none, some}
 use native.Mathlib.Omega.{arith}
 use native.Mathlib.Numerals.{add-one}
-use lib.Dec.{T}
 use lib.ListN.{length}
-use lib.Ieee.{Float}
-use Rattle.definition.specs.Run.{Run, done, refuse, ask, bind, answered, Reply, refused, entries, Reading, new}
+use Rattle.definition.specs.Run.{Run, done, refuse, ask, bind, answered, Reply, new}
 use Rattle.definition.specs.Likelihood.{Rows}
 use Rattle.definition.specs.Summary.{Finished}
 use Rattle.definition.specs.Whole.{Edit, placed, renewed, unlessMissing}
 use Rattle.definition.specs.declared.Point.{Point}
-use Rattle.session.specs.Meaning.{State, asking, standing, over, after, stencil, stencilNext, pointAt, rowsNext, said, head, sizesOf, either}
+use Rattle.stencil.specs.Stencil.{stencil, stencilNext, pointAt, rowsNext, oneRows}
+use Rattle.stencil.proofs.Laws.{stencil-asks, next-of, last-of}
+use Rattle.session.specs.Meaning.{sizesOf}
 use Rattle.session.specs.Meaning as run
-use Rattle.session.specs.Changing.{editOf, rangeOf, rowsFrom, fittedIn, fittedSays, changedFrom, Changed, roomy}
-use Rattle.session.specs.Reading.{reportIn}
-use Rattle.session.specs.declared.Change.{Change}
+use Rattle.lists.specs.Changing.{editOf, rangeOf, roomy, rowsFrom}
+use Rattle.session.specs.Changing.{fittedIn, fittedSays, changedFrom, Changed}
+use Rattle.lists.specs.declared.Change.{Change}
+use Rattle.lists.proofs.Arrays.{and-both}
 use Rattle.session.specs.declared.Fitted.{Fitted}
 use Rattle.session.specs.declared.Fitted.the-variants.{Unfitted, FittedAt}
 use Rattle.session.specs.declared.Session.{Session as Running}
-use Rattle.session.specs.declared.Step.the-variants.{Report, Refused}
-use Rattle.session.proofs.Rows.{stencil-asks, next-of, last-of}
-use Rattle.editing.specs.Meaning.{oneRows, placeOf, puts, opens, endedWith, editLeft, openIn, stateBy, state, Sized, Stands, closedWith, asksWith, askedAt, openPoint, pointSays, rowFrom, nextLeft}
-use Rattle.editing.specs.declared.One.{One}
+use Rattle.definition.specs.declared.Step.the-variants.{Question, Report, Refused}
+use Rattle.editing.specs.Meaning.{placeOf, puts, opens, endedWith, editLeft, openIn, stateBy, state, closedWith, askedAt, openPoint, rowFrom, nextLeft}
+use Rattle.stencil.specs.declared.OneRow.{OneRow}
 use Rattle.editing.specs.declared.OpenEdit.{OpenEdit}
-use Rattle.editing.specs.declared.OpenPoint.{OpenPoint}
-use Rattle.editing.specs.declared.OpenPoint.the-variants.{Absent, Here}
 use Rattle.editing.specs.declared.Editing.the-variants.{Closed, Asks}
 use Rattle.editing.specs.declared.Session.{Session}
 use Rattle.editing.specs.declared.Answer.{Answer}
+use Rattle.definition.specs.Session.{Sizes, State, after, asking, counted, either, head, over, standing}
+use Rattle.editing.proofs.Contracts.{Stands}
+use Rattle.report.specs.Reading.{reportIn}
+use Rattle.definition.specs.declared.Distances.the-variants.{New}
 
 -- ---- the state
 
@@ -144,29 +145,21 @@ module _ (s : Running) (c : Finished) (at : run.state s ≡ standing c) where
       → Stands (askedAt s x p) (sizesOf (s .body)) (some c) (s .asked) (editLeft c (x .change) (x .answered) (oneRows (x .one)))
   asks-stands x p f e = record {
     leads = ap (λ (t : State). openIn t x) at ∙ open-state c x f ∙ sym (ap (after (some c)) (edit-asks c x));
-    says = ap (λ (q : Point). run.question (q .mv) (q .bc) run.ofNew) e ∙ sym (ap head (edit-asks c x));
+    says = ap (λ (q : Point). Question (q .mv) (q .bc) New) e ∙ sym (ap head (edit-asks c x));
     counts = sym (counted-kept (editLeft c (x .change) (x .answered) (oneRows (x .one))));
     sized = tt;
   }
     where
-      counted-kept : (t : Run Finished) → run.counted (some c) (s .asked) t ≡ s .asked
+      counted-kept : (t : Run Finished) → counted (some c) (s .asked) t ≡ s .asked
       counted-kept t = refl
 
-pub stands-same : {a : Answer} {z : run.Sizes} {kept : Option Finished} {n : ℕ} {t u : Run Finished} → Stands a z kept n t → t ≡ u → Stands a z kept n u
+pub stands-same : {a : Answer} {z : Sizes} {kept : Option Finished} {n : ℕ} {t u : Run Finished} → Stands a z kept n t → t ≡ u → Stands a z kept n u
 stands-same {a} {z} {kept} {n} s e = subst (λ (x : Run Finished). Stands a z kept n x) e s
 
-pub stands-as : {r a : Answer} {z : run.Sizes} {kept : Option Finished} {n : ℕ} {t : Run Finished} → r ≡ a → Stands a z kept n t → Stands r z kept n t
+pub stands-as : {r a : Answer} {z : Sizes} {kept : Option Finished} {n : ℕ} {t : Run Finished} → r ≡ a → Stands a z kept n t → Stands r z kept n t
 stands-as {r} {a} {z} {kept} {n} {t} e s = subst (λ (x : Answer). Stands x z kept n t) (sym e) s
 
 -- the change fits its list: it is made
-apart : _≡_ {A = Bool} false true → ⊥
-apart e = let z : _≡_ {A = ℕ} 0 1 = cc in absurd (omega arith)
-
-both : (a b : Bool) → (a && b) ≡ true → (a ≡ true) × (b ≡ true)
-both true true e = (refl, refl)
-both true false e = let z : _≡_ {A = Bool} false true = e in absurd (apart z)
-both false b e = absurd (apart e)
-
 pub change-made : (s r : Running) (c : Finished) (e : Edit) (one : Rows) → run.state s ≡ standing c → placed e (length (c .requested)) ≡ true → roomy e (length (c .requested)) ≡ true
     → Changed s e one r → (run.state r ≡ standing (renewed c e one)) × (r .asked ≡ s .asked)
 change-made s r c e one at p m d =
@@ -175,7 +168,7 @@ change-made s r c e one at p m d =
     subst (λ (b : Bool). either b A (r ≡ s)) (ap (λ (b : Bool). b && roomy e (length (c .requested))) p ∙ m) h
 
 -- after the k-th reply about the new distance
-module _ (s : Running) (change : Change) (k : ℕ) (p : Point) (one : One) (c : Finished) (at : run.state s ≡ standing c) (point : c .fit .point ≡ p) (f : Fits c change) where
+module _ (s : Running) (change : Change) (k : ℕ) (p : Point) (one : OneRow) (c : Finished) (at : run.state s ≡ standing c) (point : c .fit .point ≡ p) (f : Fits c change) where
   abbrev e : Edit
   e = editOf change
 
@@ -205,8 +198,8 @@ module _ (s : Running) (change : Change) (k : ℕ) (p : Point) (one : One) (c : 
   pub reply-whole : (r : Running) → 4 ≤ k → one .gap ≡ 0 → Changed s (editOf change) (rowsFrom (rowFrom one)) r → Stands (closedWith r Report) (sizesOf (s .body)) (some c) (s .asked) rest
   reply-whole r h g d =
       let n = length (c .requested) in
-      let a = both (placed (editOf change) n) (roomy (editOf change) n && puts (editOf change)) f in
-      let b = both (roomy (editOf change) n) (puts (editOf change)) (a .1) in
+      let a = and-both (placed (editOf change) n) (roomy (editOf change) n && puts (editOf change)) f in
+      let b = and-both (roomy (editOf change) n) (puts (editOf change)) (a .1) in
       let made = change-made s r c (editOf change) (rowsFrom (rowFrom one)) at (a .0) (b .0) d in
       stands-same (changed-stands s c at r (renewed c (editOf change) (oneRows one)) made)
       (ap (λ (m : ℕ). bind (unlessMissing m (placeOf (editOf change))) (λ u. done (renewed c (editOf change) (oneRows one)))) (sym g) ∙ sym (last h))

@@ -1,43 +1,37 @@
 // A session whose requested distances can be edited once its run has ended. The run is a `session::Session`; an edit asks about its new distance alone and
 // then changes the list and the bands of the finished run, or leaves them as they were.
+use definition::Distances;
 use definition::Point;
 use definition::Row;
+use definition::Step;
 use definition::TruingPriorsV1;
+use lists::Change;
 use report::BandAt;
 use report::ResultAt;
-use session::Change;
-use session::Distances;
+use report::Shown;
 use session::Fitted;
-use session::Shown;
-use session::Step;
+use stencil::OneRow;
 ghost use mathlib.Core.Path.{_≡_};
 ghost use mathlib.Core.Bool.{true};
-ghost use mathlib.Core.List.{[], _∷_, map};
-ghost use lib.ListN.{length};
-ghost use Rattle.definition.specs.Run.{readingOf, dropOr0};
-ghost use Rattle.definition.specs.Whole.{putIn, takeOut, exchange};
-ghost use Rattle.likelihood.specs.Arrays.{entriesOf};
 ghost use mathlib.Core.Option.{some};
+ghost use lib.ListN.{length};
 ghost use Rattle.definition.specs.Summary.{Finished};
+ghost use Rattle.definition.specs.Whole.{putIn, takeOut, exchange};
+ghost use Rattle.definition.specs.Session.{standing, Stands, Declines, Opened, Replied, PointRefused, Edited};
+ghost use Rattle.stencil.specs.Stencil.{oneRows};
+ghost use Rattle.opening.specs.Opening.{wantedAt, openingOf};
+ghost use Rattle.lists.specs.Changing.{editOf};
+ghost use Rattle.report.specs.Reading.{ReportRead, ResultRead, BaselineResultRead, BandRead};
 ghost use Rattle.session.specs.Meaning as running;
-ghost use Rattle.session.specs.Meaning.{standing, sizesOf, rowsNext};
-ghost use Rattle.session.specs.Opening.{wantedAt, openingOf};
-ghost use Rattle.session.specs.Changing.{editOf, fittedIn, fittedSays};
-ghost use Rattle.editing.specs.Meaning.{oneRows, placeOf, puts, opens, state, Stands, Declines, ofRun, closedWith, asksWith, askedAt, newly, openPoint, pointSays, rowFrom, nextLeft, Opened, Replied, PointRefused, Edited, ReportRead, ResultRead, BaselineResultRead, BandRead};
-
-// The new distance's row as far as the five questions have been answered, and whether an entry was missing: 1, or 0.
-pub struct One {
-    predicted: f64,
-    by_mv: f64,
-    by_bc: f64,
-    gap: usize,
-}
+ghost use Rattle.session.specs.Meaning.{sizesOf};
+ghost use Rattle.session.specs.Changing.{fittedIn, fittedSays};
+ghost use Rattle.editing.specs.Meaning.{placeOf, puts, opens, state, seen, ofRun, closedWith, asksWith, askedAt, newly, openPoint, pointSays, rowFrom, nextLeft};
 
 // An edit with a question open: the change that it makes, how many of the five questions have been answered, and its row.
 pub struct OpenEdit {
     change: Change,
     answered: usize,
-    one: One,
+    one: OneRow,
 }
 
 pub enum Editing {
@@ -58,7 +52,7 @@ pub struct Answer {
 // ---- answers
 
 fn declined(s: Session, number: usize) -> Answer
-    ensures { λ r. ⌜ Declines r s number ⌝ }
+    ensures { λ r. ⌜ Declines seen (r .step) (r .session) s number ⌝ }
 {
     Answer {
         step: Step::Refused(number, 0),
@@ -107,52 +101,6 @@ fn asks(run: session::Session, asking: OpenEdit, p: Point) -> Answer
     }
 }
 
-// ---- the row of the new distance
-
-fn only_drop(reply: &[f64], missing: &[bool]) -> f64
-    requires { ⌜ (length (now reply) ≡ 1) × (length (now missing) ≡ 1) ⌝ }
-    ensures { λ r. ⌜ map dropOr0 (entriesOf (now (reply .entry)) (now (missing .entry))) ≡ r ∷ [] ⌝ }
-{
-    likelihood::drop_or_0(reply[0], missing[0])
-}
-
-// The row with the reply to the k-th of the five questions, counted from 0.
-fn read_one(one: One, k: usize, p: Point, reply: &[f64], missing: &[bool]) -> One
-    requires { ⌜ (length (now reply) ≡ 1) × (length (now missing) ≡ 1) ⌝ }
-    ensures { λ r. ⌜ oneRows r ≡ rowsNext k p (oneRows one) (readingOf (entriesOf (now (reply .entry)) (now (missing .entry)))) ⌝ }
-{
-    let found = likelihood::first_gap(reply, missing);
-    let x = only_drop(reply, missing);
-    if k == 0 {
-        return One {
-            predicted: x,
-            gap: found,
-            ..one
-        };
-    }
-    let gap = likelihood::first_of(one.gap, found);
-    if k == 1 {
-        return One {
-            by_mv: x,
-            gap,
-            ..one
-        };
-    }
-    if k == 2 {
-        let by_mv = likelihood::slope_of(likelihood::mv_step(p.mv), one.by_mv, x);
-        return One { by_mv, gap, ..one };
-    }
-    if k == 3 {
-        return One {
-            by_bc: x,
-            gap,
-            ..one
-        };
-    }
-    let by_bc = likelihood::slope_of(likelihood::bc_step(p.bc), one.by_bc, x);
-    One { by_bc, gap, ..one }
-}
-
 // ---- an edit
 
 // The point of the fit, where an edit can have a question open.
@@ -188,8 +136,8 @@ fn open_point(run: session::Session, change: Change) -> OpenPoint
     match session::fit_of(run) {
         Fitted::Unfitted => OpenPoint::Absent,
         Fitted::FittedAt(p, n) => {
-            let placed = session::is_placed(change, n);
-            let asks = session::has_room(change, n) & puts_questions(change);
+            let placed = lists::is_placed(change, n);
+            let asks = lists::has_room(change, n) & puts_questions(change);
             if placed & asks {
                 return OpenPoint::Here(p);
             }
@@ -198,7 +146,7 @@ fn open_point(run: session::Session, change: Change) -> OpenPoint
     }
 }
 
-fn row_of(one: One) -> Row
+fn row_of(one: OneRow) -> Row
     ensures { λ r. ⌜ r ≡ rowFrom one ⌝ }
 {
     Row {
@@ -209,11 +157,11 @@ fn row_of(one: One) -> Row
 }
 
 // The k-th reply about the new distance is in its row. A gap is judged after the fifth; the edit then leaves the finished run as it was.
-fn after_reply(run: session::Session, change: Change, k: usize, p: Point, one: One) -> Answer
-    ensures { λ r. ⌜ ((c : Finished) → running.state run ≡ standing c → c .fit .point ≡ p → opens (editOf change) (length (c .requested)) ≡ true → Stands r (sizesOf (run .body)) (some c) (run .asked) (nextLeft c change k p (oneRows one))) ⌝ }
+fn after_reply(run: session::Session, change: Change, k: usize, p: Point, one: OneRow) -> Answer
+    ensures { λ r. ⌜ ((c : Finished) → running.state run ≡ standing c → c .fit .point ≡ p → opens (editOf change) (length (c .requested)) ≡ true → Stands seen (r .step) (r .session) (sizesOf (run .body)) (some c) (run .asked) (nextLeft c change k p (oneRows one))) ⌝ }
 {
     if k < 4 {
-        let q = session::stencil_point(p, k + 1);
+        let q = stencil::stencil_point(p, k + 1);
         let next = OpenEdit {
             change,
             answered: k + 1,
@@ -237,7 +185,7 @@ fn reply_new<'a>(
     reply: &'a [f64],
     missing: &'a [bool],
 ) -> Answer
-    ensures { λ r. ⌜ Replied (asksWith run asking) (now (reply .entry)) (now (missing .entry)) r ⌝ }
+    ensures { λ r. ⌜ Replied seen (asksWith run asking) (now (reply .entry)) (now (missing .entry)) (r .step) (r .session) ⌝ }
 {
     let change = asking.change;
     let k = asking.answered;
@@ -252,7 +200,7 @@ fn reply_new<'a>(
             if !session::right_length(reply, missing, 1) {
                 return declined(s, 9);
             }
-            let one = read_one(old, k, p, reply, missing);
+            let one = stencil::read_one(old, k, p, reply, missing);
             after_reply(run, change, k, p, one)
         }
     }
@@ -260,7 +208,7 @@ fn reply_new<'a>(
 
 // A refusal of the point of a question about the new distance.
 fn refuse_new(run: session::Session, asking: OpenEdit) -> Answer
-    ensures { λ r. ⌜ PointRefused (asksWith run asking) r ⌝ }
+    ensures { λ r. ⌜ PointRefused seen (asksWith run asking) (r .step) (r .session) ⌝ }
 {
     let change = asking.change;
     let s = Session {
@@ -286,7 +234,7 @@ pub fn open<'a>(
     future: &'a [f64],
     given: &'a [bool],
 ) -> Answer
-    ensures { λ r. ⌜ Opened (openingOf entered (now (ranges .entry)) (now (drops .entry)) (now (sigmas .entry)) priors (now (distances .entry)) (now (future .entry)) (now (given .entry))) r ⌝ }
+    ensures { λ r. ⌜ Opened seen (openingOf entered (now (ranges .entry)) (now (drops .entry)) (now (sigmas .entry)) priors (now (distances .entry)) (now (future .entry)) (now (given .entry))) (r .step) (r .session) ⌝ }
 {
     of_run(session::open(
         entered,
@@ -302,7 +250,7 @@ pub fn open<'a>(
 
 // A reply with an entry for each distance of the open question: a drop, or its flag for one that is missing.
 pub fn reply<'a>(s: Session, reply: &'a [f64], missing: &'a [bool]) -> Answer
-    ensures { λ r. ⌜ Replied s (now (reply .entry)) (now (missing .entry)) r ⌝ }
+    ensures { λ r. ⌜ Replied seen s (now (reply .entry)) (now (missing .entry)) (r .step) (r .session) ⌝ }
 {
     let run = s.run;
     let edit = s.edit;
@@ -314,7 +262,7 @@ pub fn reply<'a>(s: Session, reply: &'a [f64], missing: &'a [bool]) -> Answer
 
 // The host refuses the point: the run or the edit ends, but for the baseline, whose refusal refuses nothing.
 pub fn refuse(s: Session) -> Answer
-    ensures { λ r. ⌜ PointRefused s r ⌝ }
+    ensures { λ r. ⌜ PointRefused seen s (r .step) (r .session) ⌝ }
 {
     let run = s.run;
     let edit = s.edit;
@@ -340,7 +288,7 @@ fn standing(s: Session) -> Fitted
 fn begin(run: session::Session, change: Change, p: Point) -> Answer
     ensures { λ r. ⌜ r ≡ askedAt run (newly change) p ⌝ }
 {
-    let one = One {
+    let one = OneRow {
         predicted: 0.0,
         by_mv: 0.0,
         by_bc: 0.0,
@@ -356,20 +304,20 @@ fn begin(run: session::Session, change: Change, p: Point) -> Answer
 
 // A requested distance, with its sigma if one is given, is put in at a place; later ones move up.
 pub fn put_in(s: Session, place: usize, range: f64, sigma: f64, given: bool) -> Answer
-    ensures { λ r. ⌜ Edited s (putIn place (wantedAt range sigma given)) r ⌝ }
+    ensures { λ r. ⌜ Edited seen s (putIn place (wantedAt range sigma given)) (r .step) (r .session) ⌝ }
 {
     let run = s.run;
     match standing(s) {
         Fitted::Unfitted => declined(s, 14),
         Fitted::FittedAt(p, n) => {
-            let change = Change::PutIn(place, range, session::sigma_or_0(sigma, given));
-            if !session::is_placed(change, n) {
+            let change = Change::PutIn(place, range, lists::sigma_or_0(sigma, given));
+            if !lists::is_placed(change, n) {
                 return declined(s, 15);
             }
             if n >= 64 {
                 return closed_with(run, Step::Refused(6, 0));
             }
-            if !session::is_sound_wanted(range, sigma, given) {
+            if !opening::is_sound_wanted(range, sigma, given) {
                 return closed_with(run, Step::Refused(7, place));
             }
             begin(run, change, p)
@@ -379,14 +327,14 @@ pub fn put_in(s: Session, place: usize, range: f64, sigma: f64, given: bool) -> 
 
 // The requested distance at a place is taken out. No question is put.
 pub fn take_out(s: Session, place: usize) -> Answer
-    ensures { λ r. ⌜ Edited s (takeOut place) r ⌝ }
+    ensures { λ r. ⌜ Edited seen s (takeOut place) (r .step) (r .session) ⌝ }
 {
     let run = s.run;
     match standing(s) {
         Fitted::Unfitted => declined(s, 14),
         Fitted::FittedAt(_p, n) => {
             let change = Change::TakeOut(place);
-            if !session::is_placed(change, n) {
+            if !lists::is_placed(change, n) {
                 return declined(s, 15);
             }
             let row = Row {
@@ -402,17 +350,17 @@ pub fn take_out(s: Session, place: usize) -> Answer
 
 // The requested distance at a place is exchanged for another.
 pub fn exchange(s: Session, place: usize, range: f64, sigma: f64, given: bool) -> Answer
-    ensures { λ r. ⌜ Edited s (exchange place (wantedAt range sigma given)) r ⌝ }
+    ensures { λ r. ⌜ Edited seen s (exchange place (wantedAt range sigma given)) (r .step) (r .session) ⌝ }
 {
     let run = s.run;
     match standing(s) {
         Fitted::Unfitted => declined(s, 14),
         Fitted::FittedAt(p, n) => {
-            let change = Change::Exchange(place, range, session::sigma_or_0(sigma, given));
-            if !session::is_placed(change, n) {
+            let change = Change::Exchange(place, range, lists::sigma_or_0(sigma, given));
+            if !lists::is_placed(change, n) {
                 return declined(s, 15);
             }
-            if !session::is_sound_wanted(range, sigma, given) {
+            if !opening::is_sound_wanted(range, sigma, given) {
                 return closed_with(run, Step::Refused(7, place));
             }
             begin(run, change, p)
@@ -432,7 +380,7 @@ pub fn asked(s: Session) -> u64
 
 // The report that stands, but for its lists: none while a question is open.
 pub fn report(s: Session) -> Shown
-    ensures { λ r. ⌜ ReportRead s r ⌝ }
+    ensures { λ r. ⌜ ReportRead (state s) r ⌝ }
 {
     let run = s.run;
     let edit = s.edit;
@@ -444,7 +392,7 @@ pub fn report(s: Session) -> Shown
 
 // The i-th observation result of the report that stands, counted from 0.
 pub fn observation_result(s: Session, i: usize) -> ResultAt
-    ensures { λ r. ⌜ ResultRead s i r ⌝ }
+    ensures { λ r. ⌜ ResultRead (state s) i r ⌝ }
 {
     let run = s.run;
     let edit = s.edit;
@@ -456,7 +404,7 @@ pub fn observation_result(s: Session, i: usize) -> ResultAt
 
 // The i-th observation result of its baseline, if it has one.
 pub fn baseline_result(s: Session, i: usize) -> ResultAt
-    ensures { λ r. ⌜ BaselineResultRead s i r ⌝ }
+    ensures { λ r. ⌜ BaselineResultRead (state s) i r ⌝ }
 {
     let run = s.run;
     let edit = s.edit;
@@ -468,7 +416,7 @@ pub fn baseline_result(s: Session, i: usize) -> ResultAt
 
 // The i-th band of the report that stands.
 pub fn predictive_band(s: Session, i: usize) -> BandAt
-    ensures { λ r. ⌜ BandRead s i r ⌝ }
+    ensures { λ r. ⌜ BandRead (state s) i r ⌝ }
 {
     let run = s.run;
     let edit = s.edit;

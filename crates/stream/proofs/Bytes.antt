@@ -85,7 +85,8 @@ cut-words l f v (c ∷ s) = by (eqb c 32) (λ m. cut-words (takeOf l v f false) 
     opens (w ∷ ws) h = ap (λ (x : List ℕ). readOn (takeOf l x f false) false (w ∷ ws)) (sym (append-nil v))
 
     by : (b : Bool)
-        → (ℕ → ended (cutFrom (record { line = takeOf l v f false; first = false; word = [] }) s) ≡ readOn (takeOf l v f false) false (inFrontOf [] (wordsOf s)))
+        → (ℕ
+        → ended (cutFrom (record { line = takeOf l v f false; first = false; word = [] }) s) ≡ readOn (takeOf l v f false) false (inFrontOf [] (wordsOf s)))
         → (ℕ → ended (cutFrom (record { line = l; first = f; word = v ++ (c ∷ []) }) s) ≡ readOn l f (inFrontOf (v ++ (c ∷ [])) (wordsOf s)))
         → ended (cutFrom (cond b (record { line = takeOf l v f false; first = false; word = [] }) (record { line = l; first = f; word = v ++ (c ∷ []) })) s)
         ≡ readOn l f (inFrontOf v (cond b ([] ∷ wordsOf s) (putFirst c (wordsOf s))))
@@ -115,7 +116,8 @@ module _ (r : Reader) (s : List ℕ) (k : Reads r s) where
   x : Cut
   x = cutFrom uncut s
 
-  took : (last : Bool) → takeOf (r .line) (take (r .len) (r .word)) (r .first) last ≡ takeOf (cutFrom uncut s .line) (cutFrom uncut s .word) (cutFrom uncut s .first) last
+  took : (last : Bool)
+      → takeOf (r .line) (take (r .len) (r .word)) (r .first) last ≡ takeOf (cutFrom uncut s .line) (cutFrom uncut s .word) (cutFrom uncut s .first) last
   took last =
       (λ i. takeOf (k .line i) (k .word i) (k .first i) last) ∙ word-short (cutFrom uncut s .line) (cutFrom uncut s .word) (cutFrom uncut s .first) last
 
@@ -123,16 +125,21 @@ module _ (r : Reader) (s : List ℕ) (k : Reads r s) where
   ends-line = ap formIn (took true) ∙ line-is s
 
   module _ (c : ℕ) where
-    blank-cut : eqb c 32 ≡ true → cutFrom uncut (s ++ (c ∷ [])) ≡ record { line = takeOf (cutFrom uncut s .line) (cutFrom uncut s .word) (cutFrom uncut s .first) false; first = false; word = [] }
+    blank-cut : eqb c 32 ≡ true
+        → cutFrom uncut (s ++ (c ∷ []))
+        ≡ record { line = takeOf (cutFrom uncut s .line) (cutFrom uncut s .word) (cutFrom uncut s .first) false; first = false; word = [] }
     blank-cut e =
         cut-append uncut s (c ∷ [])
-        ∙ ap (λ (b : Bool). cond {A = Cut} b (record { line = takeOf (cutFrom uncut s .line) (cutFrom uncut s .word) (cutFrom uncut s .first) false; first = false; word = [] })
+        ∙ ap (λ (b : Bool). cond {A = Cut} b
+        (record { line = takeOf (cutFrom uncut s .line) (cutFrom uncut s .word) (cutFrom uncut s .first) false; first = false; word = [] })
         (record { line = cutFrom uncut s .line; first = cutFrom uncut s .first; word = cutFrom uncut s .word ++ (c ∷ []) })) e
 
-    other-cut : eqb c 32 ≡ false → cutFrom uncut (s ++ (c ∷ [])) ≡ record { line = cutFrom uncut s .line; first = cutFrom uncut s .first; word = cutFrom uncut s .word ++ (c ∷ []) }
+    other-cut : eqb c 32 ≡ false
+        → cutFrom uncut (s ++ (c ∷ [])) ≡ record { line = cutFrom uncut s .line; first = cutFrom uncut s .first; word = cutFrom uncut s .word ++ (c ∷ []) }
     other-cut e =
         cut-append uncut s (c ∷ [])
-        ∙ ap (λ (b : Bool). cond {A = Cut} b (record { line = takeOf (cutFrom uncut s .line) (cutFrom uncut s .word) (cutFrom uncut s .first) false; first = false; word = [] })
+        ∙ ap (λ (b : Bool). cond {A = Cut} b
+        (record { line = takeOf (cutFrom uncut s .line) (cutFrom uncut s .word) (cutFrom uncut s .first) false; first = false; word = [] })
         (record { line = cutFrom uncut s .line; first = cutFrom uncut s .first; word = cutFrom uncut s .word ++ (c ∷ []) })) e
 
     pub reads-blank : (l : Line) → eqb c 32 ≡ true → l ≡ takeOf (r .line) (take (r .len) (r .word)) (r .first) false
@@ -148,7 +155,8 @@ module _ (r : Reader) (s : List ℕ) (k : Reads r s) where
           word = ap (λ (y : Cut). take 32 (y .word)) q;
         }
 
-    pub reads-full : eqb c 32 ≡ false → 32 ≤ r .len → Reads (record { word = r .word; len = r .len; first = r .first; begun = true; line = r .line }) (s ++ (c ∷ []))
+    pub reads-full :
+        eqb c 32 ≡ false → 32 ≤ r .len → Reads (record { word = r .word; len = r .len; first = r .first; begun = true; line = r .line }) (s ++ (c ∷ []))
     reads-full e h =
         let q = sym (other-cut e) in
         let v = cutFrom uncut s .word in
@@ -191,8 +199,10 @@ pub to-line : (t : Conversation) (s b more : List ℕ) → endsIn b ≡ true →
 to-line t s [] more e = let z : _≡_ {A = ℕ} 0 1 = cc in absurd (omega arith)
 to-line t s (c ∷ b) more e = by (eqb c 10) e (to-line t (s ++ (c ∷ [])) b more)
   where
-    by : (v : Bool) → cond v true (endsIn b) ≡ true → (endsIn b ≡ true → outputFrom t (s ++ (c ∷ [])) (b ++ more) ≡ answering t ((s ++ (c ∷ [])) ++ lineIn b) (restIn b ++ more))
-        → cond v (answering t s (b ++ more)) (outputFrom t (s ++ (c ∷ [])) (b ++ more)) ≡ answering t (s ++ cond v [] (c ∷ lineIn b)) (cond v b (restIn b) ++ more)
+    by : (v : Bool) → cond v true (endsIn b) ≡ true
+        → (endsIn b ≡ true → outputFrom t (s ++ (c ∷ [])) (b ++ more) ≡ answering t ((s ++ (c ∷ [])) ++ lineIn b) (restIn b ++ more))
+        → cond v (answering t s (b ++ more)) (outputFrom t (s ++ (c ∷ [])) (b ++ more))
+        ≡ answering t (s ++ cond v [] (c ∷ lineIn b)) (cond v b (restIn b) ++ more)
     by true f g = ap (λ (l : List ℕ). answering t l (b ++ more)) (sym (append-nil s))
     by false f g = g f ∙ ap (λ (l : List ℕ). answering t l (restIn b ++ more)) (append-assoc s (c ∷ []) (lineIn b))
 
@@ -200,8 +210,10 @@ pub no-line : (t : Conversation) (s b more : List ℕ) → endsIn b ≡ false �
 no-line t s [] more e = ap (λ (l : List ℕ). outputFrom t l more) (sym (append-nil s))
 no-line t s (c ∷ b) more e = by (eqb c 10) e (no-line t (s ++ (c ∷ [])) b more)
   where
-    by : (v : Bool) → cond v true (endsIn b) ≡ false → (endsIn b ≡ false → outputFrom t (s ++ (c ∷ [])) (b ++ more) ≡ outputFrom t ((s ++ (c ∷ [])) ++ lineIn b) (restIn b ++ more))
-        → cond v (answering t s (b ++ more)) (outputFrom t (s ++ (c ∷ [])) (b ++ more)) ≡ outputFrom t (s ++ cond v [] (c ∷ lineIn b)) (cond v b (restIn b) ++ more)
+    by : (v : Bool) → cond v true (endsIn b) ≡ false
+        → (endsIn b ≡ false → outputFrom t (s ++ (c ∷ [])) (b ++ more) ≡ outputFrom t ((s ++ (c ∷ [])) ++ lineIn b) (restIn b ++ more))
+        → cond v (answering t s (b ++ more)) (outputFrom t (s ++ (c ∷ [])) (b ++ more))
+        ≡ outputFrom t (s ++ cond v [] (c ∷ lineIn b)) (cond v b (restIn b) ++ more)
     by true f g = let z : _≡_ {A = ℕ} 0 1 = cc in absurd (omega arith)
     by false f g = g f ∙ ap (λ (l : List ℕ). outputFrom t l (restIn b ++ more)) (append-assoc s (c ∷ []) (lineIn b))
 
@@ -252,17 +264,20 @@ pub record Scanning (bytes : List ℕ) (start : Reader) (at : ℕ) (r : Reader) 
   pub within : at ≤ length bytes → i ≤ length bytes
 
 pub scan-starts : (bytes : List ℕ) (r : Reader) (at : ℕ) → Scanning bytes r at r at
-scan-starts bytes r at = record { before = []; split = refl; reads = λ s k. subst (Reads r) (sym (append-nil s)) k; ends = refl; rest = refl; on = omega arith; within = λ h. h }
+scan-starts bytes r at =
+    record { before = []; split = refl; reads = λ s k. subst (Reads r) (sym (append-nil s)) k; ends = refl; rest = refl; on = omega arith; within = λ h. h }
 
 module _ (bytes : List ℕ) (start : Reader) (at : ℕ) (r : Reader) (i : ℕ) (k : Scanning bytes start at r i) where
   module _ (h : i < length bytes) where
     here : drop i bytes ≡ getD bytes i 0 ∷ drop (i + 1) bytes
     here = drop-cons bytes i 0 h ∙ ap (λ (n : ℕ). getD bytes i 0 ∷ drop n bytes) (sym (add-one i))
 
-    by-byte : {A : Type 0} (f : List ℕ → A) (g : Bool → A) → f (getD bytes i 0 ∷ drop (i + 1) bytes) ≡ g (eqb (getD bytes i 0) 10) → (b : Bool) → eqb (getD bytes i 0) 10 ≡ b → f (drop i bytes) ≡ g b
+    by-byte : {A : Type 0} (f : List ℕ → A) (g : Bool → A) → f (getD bytes i 0 ∷ drop (i + 1) bytes) ≡ g (eqb (getD bytes i 0) 10) → (b : Bool)
+        → eqb (getD bytes i 0) 10 ≡ b → f (drop i bytes) ≡ g b
     by-byte f g e b q = ap f here ∙ e ∙ ap g q
 
-    pub scan-on : (q : Reader) → (getD bytes i 0 ≡ 10 → ⊥) → ((s : List ℕ) → Reads r s → Reads q (s ++ (getD bytes i 0 ∷ []))) → Scanning bytes start at q (i + 1)
+    pub scan-on :
+        (q : Reader) → (getD bytes i 0 ≡ 10 → ⊥) → ((s : List ℕ) → Reads r s → Reads q (s ++ (getD bytes i 0 ∷ []))) → Scanning bytes start at q (i + 1)
     scan-on q ne next =
         let c = getD bytes i 0 in
         let no : eqb (getD bytes i 0) 10 ≡ false = ne-eqb (getD bytes i 0) 10 ne in
@@ -270,7 +285,8 @@ module _ (bytes : List ℕ) (start : Reader) (at : ℕ) (r : Reader) (i : ℕ) (
           before = k .before ++ (getD bytes i 0 ∷ []);
           split =
               append-assoc (k .before) (getD bytes i 0 ∷ []) (lineIn (drop (i + 1) bytes))
-              ∙ ap (λ (l : List ℕ). k .before ++ l) (sym (by-byte lineIn (λ b. cond b [] (getD bytes i 0 ∷ lineIn (drop (i + 1) bytes))) refl false no)) ∙ k .split;
+              ∙ ap (λ (l : List ℕ). k .before ++ l) (sym (by-byte lineIn (λ b. cond b [] (getD bytes i 0 ∷ lineIn (drop (i + 1) bytes))) refl false no))
+              ∙ k .split;
           reads = λ s m. subst (Reads q) (append-assoc s (k .before) (getD bytes i 0 ∷ [])) (next (s ++ k .before) (k .reads s m));
           ends = sym (by-byte endsIn (λ b. cond b true (endsIn (drop (i + 1) bytes))) refl false no) ∙ k .ends;
           rest = sym (by-byte restIn (λ b. cond b (drop (i + 1) bytes) (restIn (drop (i + 1) bytes))) refl false no) ∙ k .rest;
@@ -282,7 +298,9 @@ module _ (bytes : List ℕ) (start : Reader) (at : ℕ) (r : Reader) (i : ℕ) (
     scan-ends e =
         let yes : eqb (getD bytes i 0) 10 ≡ true = eq-eqb (getD bytes i 0) 10 e in
         let all : k .before ≡ lineIn (drop at bytes) =
-        sym (append-nil (k .before)) ∙ ap (λ (l : List ℕ). k .before ++ l) (sym (by-byte lineIn (λ b. cond b [] (getD bytes i 0 ∷ lineIn (drop (i + 1) bytes))) refl true yes)) ∙ k .split in
+        sym (append-nil (k .before))
+        ∙ ap (λ (l : List ℕ). k .before ++ l) (sym (by-byte lineIn (λ b. cond b [] (getD bytes i 0 ∷ lineIn (drop (i + 1) bytes))) refl true yes))
+        ∙ k .split in
         record {
           reads = λ s m. subst (λ (l : List ℕ). Reads r (s ++ l)) all (k .reads s m);
           ends = sym (by-byte endsIn (λ b. cond b true (endsIn (drop (i + 1) bytes))) refl true yes) ∙ k .ends;
@@ -306,14 +324,17 @@ module _ (bytes : List ℕ) (start : Reader) (at : ℕ) (r : Reader) (i : ℕ) (
 -- ---- bytes are taken
 
 module _ (h : State) (bytes : List ℕ) (at : ℕ) (q : Scanned) (k : Scans (h .reader) bytes at q) where
-  pub feed-line : (out after : Text) (l : Line) (a : Replied) (rd : Reader) → q .ended ≡ true → ((s : List ℕ) → Reads (q .reader) s → formIn l ≡ short (formOf s)) → Answers (h .conversation) l out after a → Reads rd []
+  pub feed-line :
+      (out after : Text) (l : Line) (a : Replied) (rd : Reader) → q .ended ≡ true → ((s : List ℕ) → Reads (q .reader) s → formIn l ≡ short (formOf s))
+      → Answers (h .conversation) l out after a → Reads rd []
       → Feeds h bytes at out after (record { state = record { reader = rd; conversation = a .conversation }; at = q .at; len = a .len })
   feed-line out after l a rd e form d z = record {
     room = d .room;
     goes = λ t s m.
         let v = s ++ lineIn (drop at bytes) in
         let f : answerTo (nextLine t) (formIn l) ≡ answerTo (nextLine t) (formOf v) =
-        ap (answerTo (nextLine t)) (form v (k .reads s (m .reader))) ∙ answer-short (h .conversation .session) (nextLine t) (m .conversation .session) (formOf v) in
+        ap (answerTo (nextLine t)) (form v (k .reads s (m .reader)))
+        ∙ answer-short (h .conversation .session) (nextLine t) (m .conversation .session) (formOf v) in
         let g : Tracks (a .conversation) (answerTo (nextLine t) (formOf v) .0) × Fills out after (a .len) (textOf (answerTo (nextLine t) (formOf v))) =
         subst (λ (x : Answered). Tracks (a .conversation) (x .0) × Fills out after (a .len) (textOf x)) f (d .goes t (m .conversation)) in
         record {
@@ -328,7 +349,8 @@ module _ (h : State) (bytes : List ℕ) (at : ℕ) (q : Scanned) (k : Scans (h .
     within = k .within;
   }
 
-  pub feed-none : (out : Text) → q .ended ≡ false → Feeds h bytes at out out (record { state = record { reader = q .reader; conversation = h .conversation }; at = q .at; len = 0 })
+  pub feed-none : (out : Text) → q .ended ≡ false
+      → Feeds h bytes at out out (record { state = record { reader = q .reader; conversation = h .conversation }; at = q .at; len = 0 })
   feed-none out e = record {
     room = refl;
     goes = λ t s m. record {
@@ -337,7 +359,9 @@ module _ (h : State) (bytes : List ℕ) (at : ℕ) (q : Scanned) (k : Scans (h .
       text = [];
       holds = record { conversation = m .conversation; reader = k .reads s (m .reader) };
       fills = record { stands = refl; counts = refl };
-      same = λ more. no-line t s (drop at bytes) more (sym (k .ends) ∙ e) ∙ ap (λ (x : List ℕ). outputFrom t (s ++ lineIn (drop at bytes)) (x ++ more)) (sym (k .rest));
+      same =
+          λ more. no-line t s (drop at bytes) more (sym (k .ends) ∙ e)
+          ∙ ap (λ (x : List ℕ). outputFrom t (s ++ lineIn (drop at bytes)) (x ++ more)) (sym (k .rest));
     };
     on = k .on;
     within = k .within;

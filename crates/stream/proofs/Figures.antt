@@ -5,9 +5,12 @@ use mathlib.Core.List.{List, [], _∷_, _++_}
 use lib.Ieee.{round, add, sub, mul, div, lt, le, isNan, ofBits, toBits}
 use Rattle.numeric.specs.Numeric.{finite, absOf, maxOf}
 use Rattle.definition.specs.Fit.{gradientNormOf, flatOf, evaluated, iterate, fitMap}
-use Rattle.definition.specs.Likelihood.{chiSquareOf, withPriorOf, withPriorsOf, valued, objective, mvStepOf, bcStepOf, mvPlusAt, mvMinusAt, bcPlusAt, bcMinusAt, bcMinus, bcPlus, mvMinus, mvPlus, truingJacobianRows, complete, accumulateOf, sumsOf, withPriorGradientOf, finishedOf, evaluate}
-use Rattle.definition.specs.Whole.{withinOf, positiveOf, soundObservationOf, soundPriorOf, soundRequestedOf, checkedPoint, checkedCount, checkedMeasured, checkedRequested, bandRows, baseline, concluded, banded, fitted, run, whole, asked, edit}
-use Rattle.session.specs.Meaning.{moreOf}
+use Rattle.definition.specs.Likelihood.{chiSquareOf, withPriorOf, withPriorsOf, valued, objective, mvStepOf, bcStepOf, mvPlusAt, mvMinusAt, bcPlusAt}
+use Rattle.definition.specs.Likelihood.{bcMinusAt, bcMinus, bcPlus, mvMinus, mvPlus, truingJacobianRows, complete, accumulateOf, sumsOf}
+use Rattle.definition.specs.Likelihood.{withPriorGradientOf, finishedOf, evaluate}
+use Rattle.definition.specs.Whole.{withinOf, positiveOf, soundObservationOf, soundPriorOf, soundRequestedOf, checkedPoint, checkedCount, checkedMeasured}
+use Rattle.definition.specs.Whole.{checkedRequested, bandRows, baseline, concluded, banded, fitted, run, whole, asked, edit}
+use Rattle.definition.specs.Session.{moreOf}
 use Rattle.forms.specs.Numbers.{digitOf, glyphOf, doubleOf, doubleText, countOf, countText}
 use Rattle.words.specs.Words.{bytes}
 use Rattle.forms.specs.Lines.{formOf, enteredOf, shotOf, priorOf, distanceOf, putInOf, exchangeOf, takeOutOf}
@@ -16,7 +19,8 @@ use Rattle.conversation.specs.Conversation.{answerTo}
 use Rattle.stream.specs.Output.{outputOf}
 
 lines : ℕ
-unfolding digitOf glyphOf doubleOf doubleText countOf countText formOf enteredOf shotOf priorOf distanceOf putInOf exchangeOf takeOutOf led joined bracketed questionText declinedText askedText malformedText moreOf answerTo outputOf
+unfolding digitOf glyphOf doubleOf doubleText countOf countText formOf enteredOf shotOf priorOf distanceOf putInOf exchangeOf takeOutOf led joined bracketed
+    questionText declinedText askedText malformedText moreOf answerTo outputOf
 lines = 0
 
 doubles : ℕ
@@ -24,11 +28,13 @@ unfolding round add sub mul div lt le isNan ofBits toBits finite absOf maxOf
 doubles = 0
 
 fits : ℕ
-unfolding chiSquareOf withPriorOf withPriorsOf valued objective mvStepOf bcStepOf mvPlusAt mvMinusAt bcPlusAt bcMinusAt bcMinus bcPlus mvMinus mvPlus truingJacobianRows complete accumulateOf sumsOf withPriorGradientOf finishedOf evaluate gradientNormOf flatOf evaluated iterate fitMap
+unfolding chiSquareOf withPriorOf withPriorsOf valued objective mvStepOf bcStepOf mvPlusAt mvMinusAt bcPlusAt bcMinusAt bcMinus bcPlus mvMinus mvPlus
+    truingJacobianRows complete accumulateOf sumsOf withPriorGradientOf finishedOf evaluate gradientNormOf flatOf evaluated iterate fitMap
 fits = 0
 
 runs : ℕ
-unfolding bandRows baseline concluded banded fitted asked edit withinOf positiveOf soundObservationOf soundPriorOf soundRequestedOf checkedPoint checkedCount checkedMeasured checkedRequested run whole
+unfolding bandRows baseline concluded banded fitted asked edit withinOf positiveOf soundObservationOf soundPriorOf soundRequestedOf checkedPoint
+    checkedCount checkedMeasured checkedRequested run whole
 runs = 0
 
 -- each text with a line feed

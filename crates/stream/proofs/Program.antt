@@ -15,7 +15,8 @@ use Rattle.stream.proofs.Bytes.{whole-output}
 
 -- what a call left in the buffer
 taken : {out after : Text} {n : ℕ} {text : Text} → Fills out after n text → take n after ≡ text
-taken {out} {after} {n} {text} f = ap (λ (m : ℕ). take m after) (f .counts) ∙ ap (take (length text)) (f .stands) ∙ take-at text (drop (length text) out) (length text) refl
+taken {out} {after} {n} {text} f =
+    ap (λ (m : ℕ). take m after) (f .counts) ∙ ap (take (length text)) (f .stands) ∙ take-at text (drop (length text) out) (length text) refl
 
 -- where the state after some bytes stands, and what was written for them
 record Left (h : State) (t : Conversation) (s bytes text : List ℕ) : Type 0 where
@@ -24,7 +25,8 @@ record Left (h : State) (t : Conversation) (s bytes text : List ℕ) : Type 0 wh
   holds : Holds h conversation line
   same : (more : List ℕ) → outputFrom t s (bytes ++ more) ≡ text ++ outputFrom conversation line more
 
-one-piece : (h : State) (t : Conversation) (s bytes : List ℕ) (at : ℕ) (xs : List FeedCall) → Holds h t s → PieceFed h bytes at xs → Left (stateAfter h xs) t s (drop at bytes) (written xs)
+one-piece : (h : State) (t : Conversation) (s bytes : List ℕ) (at : ℕ) (xs : List FeedCall) → Holds h t s → PieceFed h bytes at xs
+    → Left (stateAfter h xs) t s (drop at bytes) (written xs)
 one-piece h t s bytes at [] k m = record {
   conversation = t;
   line = s;
@@ -40,7 +42,9 @@ one-piece h t s bytes at (x ∷ xs) k m =
       line = r .line;
       holds = r .holds;
       same = λ more.
-          g .same more ∙ ap (λ (b : Text). g .text ++ b) (r .same more) ∙ sym (append-assoc (g .text) (written xs) (outputFrom (r .conversation) (r .line) more))
+          g .same more
+          ∙ ap (λ (b : Text). g .text ++ b) (r .same more)
+          ∙ sym (append-assoc (g .text) (written xs) (outputFrom (r .conversation) (r .line) more))
           ∙ ap (λ (b : Text). (b ++ written xs) ++ outputFrom (r .conversation) (r .line) more) (sym w);
     }
 
@@ -61,5 +65,7 @@ all-pieces h t s (p ∷ ps) k m =
 pub output : Output
 output h k ps m out after n f =
     let r = all-pieces h initial [] ps k m in
-    ap (λ (b : Text). allWritten ps ++ b) (taken (f .goes (r .conversation) (r .line) (r .holds))) ∙ sym (r .same []) ∙ ap (outputFrom initial []) (append-nil (input ps))
+    ap (λ (b : Text). allWritten ps ++ b) (taken (f .goes (r .conversation) (r .line) (r .holds)))
+    ∙ sym (r .same [])
+    ∙ ap (outputFrom initial []) (append-nil (input ps))
     ∙ whole-output (input ps)

@@ -2,6 +2,4 @@
 pub mod Writing
 pub mod Texts
 pub mod Pieces
-pub mod Laws
-pub mod Lengths
 pub mod Examples

@@ -22,8 +22,8 @@ use Rattle.definition.specs.Summary.{Baseline, Approximation, available, unavai
 use Rattle.forms.specs.Numbers.{doubleText, countText}
 use Rattle.words.specs.Words.{bytes}
 use Rattle.texts.specs.Writing.{Text}
-use Rattle.texts.specs.declared.Kind.{Kind}
-use Rattle.texts.specs.declared.Kind.the-variants.{Shots, Distances, New}
+use Rattle.definition.specs.declared.Distances.{Distances}
+use Rattle.definition.specs.declared.Distances.the-variants.{Shots, Requested, New}
 
 -- ---- fields and brackets
 
@@ -159,13 +159,13 @@ reportText p =
 -- ---- the other answers
 
 -- what a question's drops are for: the observations, the requested distances, or one distance that an edit brings
-abbrev pub kindName : Kind → Text
-kindName Shots = bytes "shots"
-kindName Distances = bytes "distances"
-kindName New = bytes "new"
+abbrev pub listName : Distances → Text
+listName Shots = bytes "shots"
+listName Requested = bytes "distances"
+listName New = bytes "new"
 
-unfoldable pub questionText : Kind → Float → Float → Text
-questionText kind mv bc = bracketed (bytes "question" ∷ kindName kind ∷ doubleText mv ∷ doubleText bc ∷ [])
+unfoldable pub questionText : Distances → Float → Float → Text
+questionText list mv bc = bracketed (bytes "question" ∷ listName list ∷ doubleText mv ∷ doubleText bc ∷ [])
 
 -- the number of the refusal, and a position
 unfoldable pub declinedText : ℕ → ℕ → Text

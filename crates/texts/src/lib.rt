@@ -1,5 +1,6 @@
 // A report and the other answers as texts, written into a lent buffer: each function writes from a position on and gives the next one.
 use bands::TruingPredictiveBandV1;
+use definition::Distances;
 use definition::NormalPriorV1;
 use definition::Number;
 use definition::Prior;
@@ -30,15 +31,8 @@ ghost use Rattle.warnings.specs.Warnings.{codesOf};
 ghost use Rattle.words.specs.Words.{bytes, wordAt};
 ghost use Rattle.forms.specs.Numbers.{doubleText, countText};
 ghost use Rattle.texts.specs.Writing.{Writes};
-ghost use Rattle.texts.specs.Texts.{bracketed, orNone, truthText, numberText, criterionName, failureName, gaussianText, intervalText, normalText, priorText, priorsText, resultText, diagnosticsText, covarianceText, availableText, approximationText, bandText, warningsText, kindName, questionText, declinedText, askedText, malformedText};
+ghost use Rattle.texts.specs.Texts.{bracketed, orNone, truthText, numberText, criterionName, failureName, gaussianText, intervalText, normalText, priorText, priorsText, resultText, diagnosticsText, covarianceText, availableText, approximationText, bandText, warningsText, listName, questionText, declinedText, askedText, malformedText};
 ghost use Rattle.texts.specs.Pieces.{before, headText, givenHead, baselineHead, baselineEnd, middleText, endText, sumsText, pollsText, markText, marksOf, marksText};
-
-// What the drops of a question are for: the observations, the requested distances, or the one distance that an edit brings.
-pub enum Kind {
-    Shots,
-    Distances,
-    New,
-}
 
 // One byte.
 pub fn put_byte(out: &mut [u8], at: usize, b: u8) -> usize
@@ -75,14 +69,14 @@ pub fn put_bytes(out: &mut [u8], at: usize, s: &[u8]) -> usize
     next
 }
 
-pub fn put_double(out: &mut [u8], at: usize, x: f64) -> usize
+fn put_double(out: &mut [u8], at: usize, x: f64) -> usize
     ensures { λ r. ⌜ Writes (now (out .entry)) at (now (out .exit)) r (doubleText x) ⌝ }
 {
     let digits = forms::write_double(x);
     put_bytes(out, at, &digits)
 }
 
-pub fn put_count(out: &mut [u8], at: usize, n: u64) -> usize
+fn put_count(out: &mut [u8], at: usize, n: u64) -> usize
     ensures { λ r. ⌜ Writes (now (out .entry)) at (now (out .exit)) r (countText n) ⌝ }
 {
     let text = forms::write_count(n);
@@ -92,7 +86,7 @@ pub fn put_count(out: &mut [u8], at: usize, n: u64) -> usize
 }
 
 // The word at a place of the table.
-pub fn put_word(out: &mut [u8], at: usize, k: usize) -> usize
+fn put_word(out: &mut [u8], at: usize, k: usize) -> usize
     ensures { λ r. ⌜ Writes (now (out .entry)) at (now (out .exit)) r (wordAt k) ⌝ }
 {
     let text = words::word(k);
@@ -152,13 +146,13 @@ fn failure_word(code: TruingApproximationFailureCodeV1) -> usize
     }
 }
 
-fn kind_word(k: Kind) -> usize
-    ensures { λ r. ⌜ wordAt r ≡ kindName k ⌝ }
+fn list_word(list: Distances) -> usize
+    ensures { λ r. ⌜ wordAt r ≡ listName list ⌝ }
 {
-    match k {
-        Kind::Shots => words::SHOTS,
-        Kind::Distances => words::DISTANCES,
-        Kind::New => words::NEW,
+    match list {
+        Distances::Shots => words::SHOTS,
+        Distances::Requested => words::DISTANCES,
+        Distances::New => words::NEW,
     }
 }
 
@@ -185,7 +179,7 @@ fn led_count(out: &mut [u8], at: usize, n: u64) -> usize
     put_count(out, at, n)
 }
 
-pub fn put_number(out: &mut [u8], at: usize, n: Number) -> usize
+fn put_number(out: &mut [u8], at: usize, n: Number) -> usize
     ensures { λ r. ⌜ Writes (now (out .entry)) at (now (out .exit)) r (numberText (numberOf n)) ⌝ }
 {
     match n {
@@ -203,7 +197,7 @@ fn led_number(out: &mut [u8], at: usize, n: Number) -> usize
 
 // ---- records
 
-pub fn put_gaussian(out: &mut [u8], at: usize, g: GaussianIntervalV1) -> usize
+fn put_gaussian(out: &mut [u8], at: usize, g: GaussianIntervalV1) -> usize
     ensures { λ r. ⌜ Writes (now (out .entry)) at (now (out .exit)) r (gaussianText g) ⌝ }
 {
     let at = put_byte(out, at, b'(');
@@ -215,7 +209,7 @@ pub fn put_gaussian(out: &mut [u8], at: usize, g: GaussianIntervalV1) -> usize
     put_byte(out, at, b')')
 }
 
-pub fn put_interval(out: &mut [u8], at: usize, i: Interval) -> usize
+fn put_interval(out: &mut [u8], at: usize, i: Interval) -> usize
     ensures { λ r. ⌜ Writes (now (out .entry)) at (now (out .exit)) r (intervalText (says i)) ⌝ }
 {
     match i {
@@ -233,7 +227,7 @@ fn put_normal(out: &mut [u8], at: usize, p: NormalPriorV1) -> usize
     put_byte(out, at, b')')
 }
 
-pub fn put_prior(out: &mut [u8], at: usize, p: Prior) -> usize
+fn put_prior(out: &mut [u8], at: usize, p: Prior) -> usize
     ensures { λ r. ⌜ Writes (now (out .entry)) at (now (out .exit)) r (priorText p) ⌝ }
 {
     match p {
@@ -242,7 +236,7 @@ pub fn put_prior(out: &mut [u8], at: usize, p: Prior) -> usize
     }
 }
 
-pub fn put_priors(out: &mut [u8], at: usize, p: TruingPriorsV1) -> usize
+fn put_priors(out: &mut [u8], at: usize, p: TruingPriorsV1) -> usize
     ensures { λ r. ⌜ Writes (now (out .entry)) at (now (out .exit)) r (priorsText p) ⌝ }
 {
     let speed = p.muzzle_velocity_fps;
@@ -254,7 +248,7 @@ pub fn put_priors(out: &mut [u8], at: usize, p: TruingPriorsV1) -> usize
     put_byte(out, at, b')')
 }
 
-pub fn put_result(out: &mut [u8], at: usize, o: WeightedTruingObservationResultV1) -> usize
+fn put_result(out: &mut [u8], at: usize, o: WeightedTruingObservationResultV1) -> usize
     ensures { λ r. ⌜ Writes (now (out .entry)) at (now (out .exit)) r (resultText o) ⌝ }
 {
     let at = put_byte(out, at, b'(');
@@ -301,7 +295,7 @@ fn put_polls(out: &mut [u8], at: usize, d: TruingUncertaintyDiagnosticsV1) -> us
     put_byte(out, at, b')')
 }
 
-pub fn put_diagnostics(out: &mut [u8], at: usize, d: TruingUncertaintyDiagnosticsV1) -> usize
+fn put_diagnostics(out: &mut [u8], at: usize, d: TruingUncertaintyDiagnosticsV1) -> usize
     ensures { λ r. ⌜ Writes (now (out .entry)) at (now (out .exit)) r (diagnosticsText (diagnosticsSays d)) ⌝ }
 {
     let at = put_sums(out, at, d);
@@ -335,7 +329,7 @@ fn put_available(out: &mut [u8], at: usize, g: TruingGaussianApproximationV1) ->
     put_byte(out, at, b')')
 }
 
-pub fn put_approximation(out: &mut [u8], at: usize, a: TruingApproximationV1) -> usize
+fn put_approximation(out: &mut [u8], at: usize, a: TruingApproximationV1) -> usize
     ensures { λ r. ⌜ Writes (now (out .entry)) at (now (out .exit)) r (approximationText (approximationSays a)) ⌝ }
 {
     match a {
@@ -355,7 +349,7 @@ fn led_interval(out: &mut [u8], at: usize, i: Interval) -> usize
     put_interval(out, at, i)
 }
 
-pub fn put_band(out: &mut [u8], at: usize, b: TruingPredictiveBandV1) -> usize
+fn put_band(out: &mut [u8], at: usize, b: TruingPredictiveBandV1) -> usize
     ensures { λ r. ⌜ Writes (now (out .entry)) at (now (out .exit)) r (bandText (bandSays b)) ⌝ }
 {
     let latent = b.latent_interval_95;
@@ -434,7 +428,7 @@ fn put_marks(out: &mut [u8], at: usize, on: [bool; 10]) -> usize
     next
 }
 
-pub fn put_warnings(out: &mut [u8], at: usize, w: Warnings) -> usize
+fn put_warnings(out: &mut [u8], at: usize, w: Warnings) -> usize
     ensures { λ r. ⌜ Writes (now (out .entry)) at (now (out .exit)) r (warningsText (codesOf w)) ⌝ }
 {
     let on = marks(w);
@@ -547,11 +541,11 @@ pub fn put_next_band(out: &mut [u8], at: usize, i: usize, b: TruingPredictiveBan
 
 // ---- the other answers
 
-pub fn put_question(out: &mut [u8], at: usize, k: Kind, mv: f64, bc: f64) -> usize
-    ensures { λ r. ⌜ Writes (now (out .entry)) at (now (out .exit)) r (questionText k mv bc) ⌝ }
+pub fn put_question(out: &mut [u8], at: usize, list: Distances, mv: f64, bc: f64) -> usize
+    ensures { λ r. ⌜ Writes (now (out .entry)) at (now (out .exit)) r (questionText list mv bc) ⌝ }
 {
     let at = put_start(out, at, words::QUESTION);
-    let at = put_word(out, at, kind_word(k));
+    let at = put_word(out, at, list_word(list));
     let at = led_double(out, at, mv);
     let at = led_double(out, at, bc);
     put_byte(out, at, b')')

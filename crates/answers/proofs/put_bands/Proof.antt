@@ -9,12 +9,13 @@ use lib.ListN.{take}
 use Rattle.definition.specs.Summary.{Band, Report}
 use Rattle.report.specs.Places.{bandAtSays}
 use Rattle.editing.specs.Meaning.{state}
-use Rattle.session.specs.Reading.{reportIn}
-use Rattle.answers.specs.Laws.{place-list}
-use Rattle.texts.specs.Writing.{Text, Writes, then, as-text, same-room, within, nothing}
+use Rattle.report.specs.Reading.{reportIn}
+use Rattle.answers.proofs.Laws.{place-list}
+use Rattle.texts.specs.Writing.{Text, Writes}
+use Rattle.texts.proofs.Writing.{then, as-text, same-room, within, nothing}
 use Rattle.texts.specs.Texts.{joined, bracketed, bandText, bandsText}
 use Rattle.answers.specs.Answers.{bandsIn}
-use Rattle.answers.specs.Laws.{item, all-taken}
+use Rattle.answers.proofs.Laws.{item, all-taken}
 use Rattle.answers.proofs.put_bands.Statement.{statement}
 use Rattle.answers.proofs.put_bands.Tie as tie
 
@@ -46,7 +47,10 @@ put-byte-requires-2 : tie.Need-put-byte-requires-2 Inv-loop μ-loop
 put-byte-requires-2 c κs = search needs
 
 same-length : tie.Need-same-length Inv-loop μ-loop
-same-length c = same-room (then (c .before .before .before .before .before .before .before .before .before .before .before .put-byte .ensures) (then (c .before .before .before .before .before .before .before .before .loop .inv .1) (c .before .before .put-byte2 .ensures)))
+same-length c =
+    let c1 = c .before .before .before .before .before .before .before .before in
+    let c2 = c1 .before .before .before in
+    same-room (then (c2 .put-byte .ensures) (then (c1 .loop .inv .1) (c .before .before .put-byte2 .ensures)))
 
 returns : tie.Need-returns Inv-loop μ-loop
 unfolding bandsText bracketed
@@ -54,8 +58,11 @@ returns c =
     let a = c .before .before .before .before .before .before .before .before .before .before .before .before .before .before .args in
     let l = c .before .before .before .before .before .before .before .before .loop in
     let xs = bandsIn (a .s) in
-    let e = sym (c .before .before .before .before .before .before .predictive-band .ensures .is ∙ place-list (λ p. p .bands) (l .i) (reportIn (state (a .s)))) ∙ ap bandAtSays (c .before .before .before .before .enum-told .given .1) in
-    as-text (then (c .before .before .before .before .before .before .before .before .before .before .before .put-byte .ensures) (then (l .inv .1) (c .before .before .put-byte2 .ensures)))
+    let e =
+    sym (c .before .before .before .before .before .before .predictive-band .ensures .is ∙ place-list (λ p. p .bands) (l .i) (reportIn (state (a .s))))
+    ∙ ap bandAtSays (c .before .before .before .before .enum-told .given .1) in
+    as-text (then (c .before .before .before .before .before .before .before .before .before .before .before .put-byte .ensures)
+    (then (l .inv .1) (c .before .before .put-byte2 .ensures)))
     (ap (λ (m : List Band). bracketed (map bandText m)) (all-taken xs (l .i) (a .n) e (omega arith)))
 
 put-next-band-requires : tie.Need-put-next-band-requires Inv-loop μ-loop
@@ -72,14 +79,20 @@ loop-again c =
     let a = c .before .before .before .before .before .before .before .before .before .before .before .before .before .before .before .args in
     let l = c .before .before .before .before .before .before .before .before .before .loop in
     let xs = bandsIn (a .s) in
-    let e = sym (c .before .before .before .before .before .before .before .predictive-band .ensures .is ∙ place-list (λ p. p .bands) (l .i) (reportIn (state (a .s)))) ∙ ap bandAtSays (c .before .before .before .before .before .found .given .1) in
+    let e =
+    sym
+    (c .before .before .before .before .before .before .before .predictive-band .ensures .is ∙ place-list (λ p. p .bands) (l .i) (reportIn (state (a .s))))
+    ∙ ap bandAtSays (c .before .before .before .before .before .found .given .1) in
     (omega arith, as-text (then (l .inv .1) (c .before .before .put-next-band .ensures)) (item bandText xs (l .i) _ e))
 
 put-byte-requires-3 : tie.Need-put-byte-requires-3 Inv-loop μ-loop
 put-byte-requires-3 c κs = search needs
 
 same-length-2 : tie.Need-same-length-2 Inv-loop μ-loop
-same-length-2 c = same-room (then (c .before .before .before .before .before .before .before .before .put-byte .ensures) (then (c .before .before .before .before .before .loop .inv .1) (c .before .before .put-byte3 .ensures)))
+same-length-2 c =
+    let c1 = c .before .before .before .before .before in
+    let c2 = c1 .before .before .before in
+    same-room (then (c2 .put-byte .ensures) (then (c1 .loop .inv .1) (c .before .before .put-byte3 .ensures)))
 
 returns-2 : tie.Need-returns-2 Inv-loop μ-loop
 unfolding bandsText bracketed
@@ -88,7 +101,8 @@ returns-2 c =
     let l = c .before .before .before .before .before .loop in
     let xs = bandsIn (a .s) in
     let k : l .i ≡ a .n = omega arith in
-    as-text (then (c .before .before .before .before .before .before .before .before .put-byte .ensures) (then (l .inv .1) (c .before .before .put-byte3 .ensures)))
+    as-text
+    (then (c .before .before .before .before .before .before .before .before .put-byte .ensures) (then (l .inv .1) (c .before .before .put-byte3 .ensures)))
     (ap (λ (n : ℕ). bracketed (map bandText (take n xs))) k)
 
 pub put-bands-spec : {M : Type 1} → statement M

@@ -1,6 +1,6 @@
 -- `put_baseline_list`: by whether there is a baseline.
 use borrow.Author.Needs.{needs}
-use Rattle.texts.specs.Writing.{as-text, same-room}
+use Rattle.texts.proofs.Writing.{as-text, same-room}
 use Rattle.texts.specs.Pieces.{baselineList}
 use Rattle.answers.proofs.put_baseline_list.Statement.{statement}
 use Rattle.answers.proofs.put_baseline_list.Tie as tie

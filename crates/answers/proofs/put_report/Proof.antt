@@ -1,14 +1,12 @@
 -- `put_report`: where a report stands.
 use borrow.Author.Needs.{needs}
-use mathlib.Core.Path.{_≡_, sym, ap, subst}
-use mathlib.Core.Option.{Option}
-use Rattle.definition.specs.Summary.{Report}
+use mathlib.Core.Path.{sym, ap, subst}
 use Rattle.editing.specs.Meaning.{state}
-use Rattle.session.specs.Reading.{reportIn, Shows}
-use Rattle.session.specs.declared.Shown.{Shown}
-use Rattle.texts.specs.Writing.{Writes, as-text, same-room}
+use Rattle.report.specs.Reading.{Shows, reportIn}
+use Rattle.report.specs.declared.Shown.{Shown}
+use Rattle.texts.proofs.Writing.{as-text, same-room}
 use Rattle.answers.specs.Answers.{standingText}
-use Rattle.answers.specs.Laws.{none-stands, one-stands}
+use Rattle.answers.proofs.Laws.{none-stands, one-stands}
 use Rattle.answers.proofs.put_report.Statement.{statement}
 use Rattle.answers.proofs.put_report.Tie as tie
 
@@ -35,18 +33,29 @@ same-length c = same-room (c .before .before .put-bytes .ensures)
 
 returns : tie.Need-returns
 returns c =
+    let c1 = c .before .before .before .before .before in
+    let c2 = c1 .before .before .before .before in
     as-text (c .before .before .put-bytes .ensures)
-    (sym (ap standingText (none-stands (reportIn (state (c .before .before .before .before .before .before .before .before .before .args .s))) (subst (λ (x : Shown). Shows x (reportIn (state (c .before .before .before .before .before .before .before .before .before .args .s)))) (c .before .before .before .before .before .enum-told .given .1) (c .before .before .before .before .before .before .before .report .ensures .is)))))
+    (sym (ap standingText
+    (none-stands (reportIn (state (c2 .args .s)))
+    (subst (λ (x : Shown). Shows x (reportIn (state (c2 .args .s)))) (c1 .enum-told .given .1) (c1 .before .before .report .ensures .is)))))
 
 same-length-2 : tie.Need-same-length-2
 same-length-2 c =
-    let s = c .before .before .before .before .before .before .before .before .before .args .s in
-    same-room (one-stands (reportIn (state s)) _ (subst (λ (x : Shown). Shows x (reportIn (state s))) (c .before .before .before .before .before .h .given .1) (c .before .before .before .before .before .before .before .report .ensures .is)) (c .before .before .put-shown .ensures))
+    let c1 = c .before .before .before .before .before in
+    let c2 = c1 .before .before .before .before in
+    let s = c2 .args .s in
+    same-room
+    (one-stands (reportIn (state s)) _ (subst (λ (x : Shown). Shows x (reportIn (state s))) (c1 .h .given .1) (c1 .before .before .report .ensures .is))
+    (c .before .before .put-shown .ensures))
 
 returns-2 : tie.Need-returns-2
 returns-2 c =
-    let s = c .before .before .before .before .before .before .before .before .before .args .s in
-    one-stands (reportIn (state s)) _ (subst (λ (x : Shown). Shows x (reportIn (state s))) (c .before .before .before .before .before .h .given .1) (c .before .before .before .before .before .before .before .report .ensures .is)) (c .before .before .put-shown .ensures)
+    let c1 = c .before .before .before .before .before in
+    let c2 = c1 .before .before .before .before in
+    let s = c2 .args .s in
+    one-stands (reportIn (state s)) _ (subst (λ (x : Shown). Shows x (reportIn (state s))) (c1 .h .given .1) (c1 .before .before .report .ensures .is))
+    (c .before .before .put-shown .ensures)
 
 pub put-report-spec : {M : Type 1} → statement M
 put-report-spec =

@@ -8,10 +8,11 @@ use native.Mathlib.Omega.{arith}
 use lib.ListN.{take}
 use Rattle.definition.specs.declared.WeightedTruingObservationResultV1.{WeightedTruingObservationResultV1}
 use Rattle.report.specs.Places.{resultSays}
-use Rattle.texts.specs.Writing.{Text, Writes, then, as-text, same-room, within, nothing}
+use Rattle.texts.specs.Writing.{Text, Writes}
+use Rattle.texts.proofs.Writing.{then, as-text, same-room, within, nothing}
 use Rattle.texts.specs.Texts.{joined, bracketed, resultText, resultsText}
 use Rattle.answers.specs.Answers.{resultsIn}
-use Rattle.answers.specs.Laws.{item, all-taken}
+use Rattle.answers.proofs.Laws.{item, all-taken}
 use Rattle.answers.proofs.put_results.Statement.{statement}
 use Rattle.answers.proofs.put_results.Tie as tie
 
@@ -43,7 +44,10 @@ put-byte-requires-2 : tie.Need-put-byte-requires-2 Inv-loop μ-loop
 put-byte-requires-2 c κs = search needs
 
 same-length : tie.Need-same-length Inv-loop μ-loop
-same-length c = same-room (then (c .before .before .before .before .before .before .before .before .before .before .before .put-byte .ensures) (then (c .before .before .before .before .before .before .before .before .loop .inv .1) (c .before .before .put-byte2 .ensures)))
+same-length c =
+    let c1 = c .before .before .before .before .before .before .before .before in
+    let c2 = c1 .before .before .before in
+    same-room (then (c2 .put-byte .ensures) (then (c1 .loop .inv .1) (c .before .before .put-byte2 .ensures)))
 
 returns : tie.Need-returns Inv-loop μ-loop
 unfolding resultsText bracketed
@@ -52,7 +56,8 @@ returns c =
     let l = c .before .before .before .before .before .before .before .before .loop in
     let xs = resultsIn (a .of-baseline) (a .s) in
     let e = sym (c .before .before .before .before .before .before .result .ensures) ∙ ap resultSays (c .before .before .before .before .enum-told .given .1) in
-    as-text (then (c .before .before .before .before .before .before .before .before .before .before .before .put-byte .ensures) (then (l .inv .1) (c .before .before .put-byte2 .ensures)))
+    as-text (then (c .before .before .before .before .before .before .before .before .before .before .before .put-byte .ensures)
+    (then (l .inv .1) (c .before .before .put-byte2 .ensures)))
     (ap (λ (m : List WeightedTruingObservationResultV1). bracketed (map resultText m)) (all-taken xs (l .i) (a .n) e (omega arith)))
 
 put-next-result-requires : tie.Need-put-next-result-requires Inv-loop μ-loop
@@ -69,14 +74,19 @@ loop-again c =
     let a = c .before .before .before .before .before .before .before .before .before .before .before .before .before .before .before .args in
     let l = c .before .before .before .before .before .before .before .before .before .loop in
     let xs = resultsIn (a .of-baseline) (a .s) in
-    let e = sym (c .before .before .before .before .before .before .before .result .ensures) ∙ ap resultSays (c .before .before .before .before .before .found .given .1) in
+    let e =
+    sym (c .before .before .before .before .before .before .before .result .ensures)
+    ∙ ap resultSays (c .before .before .before .before .before .found .given .1) in
     (omega arith, as-text (then (l .inv .1) (c .before .before .put-next-result .ensures)) (item resultText xs (l .i) _ e))
 
 put-byte-requires-3 : tie.Need-put-byte-requires-3 Inv-loop μ-loop
 put-byte-requires-3 c κs = search needs
 
 same-length-2 : tie.Need-same-length-2 Inv-loop μ-loop
-same-length-2 c = same-room (then (c .before .before .before .before .before .before .before .before .put-byte .ensures) (then (c .before .before .before .before .before .loop .inv .1) (c .before .before .put-byte3 .ensures)))
+same-length-2 c =
+    let c1 = c .before .before .before .before .before in
+    let c2 = c1 .before .before .before in
+    same-room (then (c2 .put-byte .ensures) (then (c1 .loop .inv .1) (c .before .before .put-byte3 .ensures)))
 
 returns-2 : tie.Need-returns-2 Inv-loop μ-loop
 unfolding resultsText bracketed
@@ -85,7 +95,8 @@ returns-2 c =
     let l = c .before .before .before .before .before .loop in
     let xs = resultsIn (a .of-baseline) (a .s) in
     let k : l .i ≡ a .n = omega arith in
-    as-text (then (c .before .before .before .before .before .before .before .before .put-byte .ensures) (then (l .inv .1) (c .before .before .put-byte3 .ensures)))
+    as-text
+    (then (c .before .before .before .before .before .before .before .before .put-byte .ensures) (then (l .inv .1) (c .before .before .put-byte3 .ensures)))
     (ap (λ (n : ℕ). bracketed (map resultText (take n xs))) k)
 
 pub put-results-spec : {M : Type 1} → statement M

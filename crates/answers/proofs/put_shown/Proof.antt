@@ -1,8 +1,8 @@
 -- `put_shown`: part by part.
 use borrow.Author.Needs.{needs}
 use mathlib.Core.Path.{_≡_}
-use Rattle.texts.specs.Writing.{then, as-text, same-room}
-use Rattle.answers.specs.Laws.{whole-text}
+use Rattle.texts.proofs.Writing.{then, as-text, same-room}
+use Rattle.answers.proofs.Laws.{whole-text}
 use Rattle.answers.proofs.put_shown.Statement.{statement}
 use Rattle.answers.proofs.put_shown.Tie as tie
 
@@ -31,10 +31,36 @@ put-end-requires : tie.Need-put-end-requires
 put-end-requires c κs = search needs
 
 same-length : tie.Need-same-length
-same-length c = same-room (then (c .before .before .before .before .before .before .before .before .before .before .before .before .before .before .before .before .before .before .before .before .before .before .before .before .before .before .before .before .before .before .put-head .ensures) (then (c .before .before .before .before .before .before .before .before .before .before .before .before .before .before .before .before .before .before .before .before .before .before .before .before .before .before .put-results .ensures) (then (c .before .before .before .before .before .before .before .before .before .before .before .before .before .before .before .before .before .before .before .before .before .before .put-baseline-head .ensures) (then (c .before .before .before .before .before .before .before .before .before .before .before .before .before .before .before .before .before .before .put-baseline-list .ensures) (then (c .before .before .before .before .before .before .before .before .before .before .before .before .before .before .put-baseline-end .ensures) (then (c .before .before .before .before .before .before .before .before .before .before .put-middle .ensures) (then (c .before .before .before .before .before .before .put-bands .ensures) (c .before .before .put-end .ensures))))))))
+same-length c =
+    let c1 = c .before .before .before .before .before .before in
+    let c2 = c1 .before .before .before .before in
+    let c3 = c2 .before .before .before .before in
+    let c4 = c3 .before .before .before .before in
+    let c5 = c4 .before .before .before .before in
+    let c6 = c5 .before .before .before .before in
+    let c7 = c6 .before .before .before .before in
+    same-room (then (c7 .put-head .ensures)
+    (then (c6 .put-results .ensures)
+    (then (c5 .put-baseline-head .ensures)
+    (then (c4 .put-baseline-list .ensures)
+    (then (c3 .put-baseline-end .ensures) (then (c2 .put-middle .ensures) (then (c1 .put-bands .ensures) (c .before .before .put-end .ensures))))))))
 
 returns : tie.Need-returns
-returns c = λ p e d. as-text (then (c .before .before .before .before .before .before .before .before .before .before .before .before .before .before .before .before .before .before .before .before .before .before .before .before .before .before .before .before .before .before .put-head .ensures) (then (c .before .before .before .before .before .before .before .before .before .before .before .before .before .before .before .before .before .before .before .before .before .before .before .before .before .before .put-results .ensures) (then (c .before .before .before .before .before .before .before .before .before .before .before .before .before .before .before .before .before .before .before .before .before .before .put-baseline-head .ensures) (then (c .before .before .before .before .before .before .before .before .before .before .before .before .before .before .before .before .before .before .put-baseline-list .ensures) (then (c .before .before .before .before .before .before .before .before .before .before .before .before .before .before .put-baseline-end .ensures) (then (c .before .before .before .before .before .before .before .before .before .before .put-middle .ensures) (then (c .before .before .before .before .before .before .put-bands .ensures) (c .before .before .put-end .ensures)))))))) (whole-text (c .before .before .before .before .before .before .before .before .before .before .before .before .before .before .before .before .before .before .before .before .before .before .before .before .before .before .before .before .before .before .before .before .before .args .s) (c .before .before .before .before .before .before .before .before .before .before .before .before .before .before .before .before .before .before .before .before .before .before .before .before .before .before .before .before .before .before .before .before .before .args .h) p e d)
+returns c =
+    let c1 = c .before .before .before .before .before .before in
+    let c2 = c1 .before .before .before .before in
+    let c3 = c2 .before .before .before .before in
+    let c4 = c3 .before .before .before .before in
+    let c5 = c4 .before .before .before .before in
+    let c6 = c5 .before .before .before .before in
+    let c7 = c6 .before .before .before .before in
+    let c8 = c7 .before .before .before in
+    λ p e d. as-text (then (c7 .put-head .ensures)
+    (then (c6 .put-results .ensures)
+    (then (c5 .put-baseline-head .ensures)
+    (then (c4 .put-baseline-list .ensures)
+    (then (c3 .put-baseline-end .ensures) (then (c2 .put-middle .ensures) (then (c1 .put-bands .ensures) (c .before .before .put-end .ensures))))))))
+    (whole-text (c8 .args .s) (c8 .args .h) p e d)
 
 pub put-shown-spec : {M : Type 1} → statement M
 put-shown-spec =

@@ -1,6 +1,6 @@
 -- `answer`: the line in its number and place, and its answer whole in the buffer.
 use borrow.Author.Needs.{needs}
-use Rattle.texts.specs.Writing.{same-room}
+use Rattle.texts.proofs.Writing.{same-room}
 use Rattle.conversation.specs.Conversation.{nextLine, answerTo}
 use Rattle.conversation.proofs.Responses.{answered-fills}
 use Rattle.conversation.proofs.answer.Statement.{statement}
@@ -19,8 +19,11 @@ returns : tie.Need-returns
 returns c = record {
   room = same-room (c .put-response .ensures);
   goes = λ t k.
-      let r = c .before .before .before .before .respond .ensures (nextLine t) (c .before .before .before .before .before .next-line .ensures t k) in
-      (r .conversation, answered-fills _ _ (r .conversation) (c .before .before .before .before .respond .result .response) _ (r .says) (c .before .put-response-arg .given .0 .1) (c .put-response .ensures));
+      let r = c .before .before .before .before .respond .ensures (nextLine t) (c .before .before .before .before .before .next-line .ensures t k) in (
+        r .conversation,
+        answered-fills _ _ (r .conversation) (c .before .before .before .before .respond .result .response) _ (r .says)
+            (c .before .put-response-arg .given .0 .1) (c .put-response .ensures),
+      );
 }
 
 pub answer-spec : {M : Type 1} → statement M

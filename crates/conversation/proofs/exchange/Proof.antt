@@ -1,4 +1,4 @@
-use Rattle.editing.specs.Meaning.{Edited}
+use Rattle.editing.proofs.Contracts.{Edited}
 use Rattle.definition.specs.Whole as edits
 use Rattle.requests.specs.Request.{requestedAt}
 use Rattle.forms.specs.declared.Sigma.{Sigma}
@@ -22,10 +22,16 @@ exchange-requires-2 : tie.Need-exchange-requires-2
 exchange-requires-2 c κs = search needs
 
 returns : tie.Need-returns
-returns c = let a = c .before .before .before .args in subst (λ (s : Sigma). Edited (a .s) (edits.exchange (a .place) (requestedAt (a .range) (sigmaSays s))) (c .exchange .result)) (sym (c .before .enum-told .given .1)) (c .exchange .ensures)
+returns c =
+    let a = c .before .before .before .args in
+    subst (λ (s : Sigma). Edited (a .s) (edits.exchange (a .place) (requestedAt (a .range) (sigmaSays s))) (c .exchange .result))
+    (sym (c .before .enum-told .given .1)) (c .exchange .ensures)
 
 returns-2 : tie.Need-returns-2
-returns-2 c = let a = c .before .before .before .before .args in subst (λ (s : Sigma). Edited (a .s) (edits.exchange (a .place) (requestedAt (a .range) (sigmaSays s))) (c .exchange2 .result)) (sym (c .before .before .sigma .given .1)) (c .exchange2 .ensures)
+returns-2 c =
+    let a = c .before .before .before .before .args in
+    subst (λ (s : Sigma). Edited (a .s) (edits.exchange (a .place) (requestedAt (a .range) (sigmaSays s))) (c .exchange2 .result))
+    (sym (c .before .before .sigma .given .1)) (c .exchange2 .ensures)
 
 pub exchange-spec : {M : Type 1} → statement M
 exchange-spec =

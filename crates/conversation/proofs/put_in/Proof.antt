@@ -1,4 +1,4 @@
-use Rattle.editing.specs.Meaning.{Edited}
+use Rattle.editing.proofs.Contracts.{Edited}
 use Rattle.definition.specs.Whole as edits
 use Rattle.requests.specs.Request.{requestedAt}
 use Rattle.forms.specs.declared.Sigma.{Sigma}
@@ -22,10 +22,16 @@ put-in-requires-2 : tie.Need-put-in-requires-2
 put-in-requires-2 c κs = search needs
 
 returns : tie.Need-returns
-returns c = let a = c .before .before .before .args in subst (λ (s : Sigma). Edited (a .s) (edits.putIn (a .place) (requestedAt (a .range) (sigmaSays s))) (c .put-in .result)) (sym (c .before .enum-told .given .1)) (c .put-in .ensures)
+returns c =
+    let a = c .before .before .before .args in
+    subst (λ (s : Sigma). Edited (a .s) (edits.putIn (a .place) (requestedAt (a .range) (sigmaSays s))) (c .put-in .result))
+    (sym (c .before .enum-told .given .1)) (c .put-in .ensures)
 
 returns-2 : tie.Need-returns-2
-returns-2 c = let a = c .before .before .before .before .args in subst (λ (s : Sigma). Edited (a .s) (edits.putIn (a .place) (requestedAt (a .range) (sigmaSays s))) (c .put-in2 .result)) (sym (c .before .before .sigma .given .1)) (c .put-in2 .ensures)
+returns-2 c =
+    let a = c .before .before .before .before .args in
+    subst (λ (s : Sigma). Edited (a .s) (edits.putIn (a .place) (requestedAt (a .range) (sigmaSays s))) (c .put-in2 .result))
+    (sym (c .before .before .sigma .given .1)) (c .put-in2 .ensures)
 
 pub put-in-spec : {M : Type 1} → statement M
 put-in-spec =

@@ -1,5 +1,5 @@
 use Rattle.conversation.specs.Tracks.{responseText}
-use Rattle.texts.specs.Writing.{as-text, same-room}
+use Rattle.texts.proofs.Writing.{as-text, same-room}
 use mathlib.Core.Path.{sym, ap}
 use borrow.Author.Needs.{needs}
 use Rattle.conversation.proofs.put_response.Statement.{statement}
@@ -36,25 +36,37 @@ same-length : tie.Need-same-length
 same-length c = search needs
 
 returns : tie.Need-returns
-returns c = as-text (c .before .before .put-bytes .ensures) (sym (ap (responseText (c .before .before .before .before .before .before .before .before .args .session)) (c .before .before .before .before .before .enum-told .given .1)))
+returns c =
+    as-text (c .before .before .put-bytes .ensures)
+    (sym (ap (responseText (c .before .before .before .before .before .before .before .before .args .session))
+    (c .before .before .before .before .before .enum-told .given .1)))
 
 same-length-2 : tie.Need-same-length-2
 same-length-2 c = search needs
 
 returns-2 : tie.Need-returns-2
-returns-2 c = as-text (c .before .before .put-malformed .ensures) (sym (ap (responseText (c .before .before .before .before .before .before .before .before .args .session)) (c .before .before .before .before .before .response .given .1)))
+returns-2 c =
+    as-text (c .before .before .put-malformed .ensures)
+    (sym (ap (responseText (c .before .before .before .before .before .before .before .before .args .session))
+    (c .before .before .before .before .before .response .given .1)))
 
 same-length-3 : tie.Need-same-length-3
 same-length-3 c = search needs
 
 returns-3 : tie.Need-returns-3
-returns-3 c = as-text (c .before .before .put-count .ensures) (sym (ap (responseText (c .before .before .before .before .before .before .before .before .args .session)) (c .before .before .before .before .before .response2 .given .1)))
+returns-3 c =
+    as-text (c .before .before .put-count .ensures)
+    (sym (ap (responseText (c .before .before .before .before .before .before .before .before .args .session))
+    (c .before .before .before .before .before .response2 .given .1)))
 
 same-length-4 : tie.Need-same-length-4
 same-length-4 c = search needs
 
 returns-4 : tie.Need-returns-4
-returns-4 c = as-text (c .before .before .put-step .ensures) (sym (ap (responseText (c .before .before .before .before .before .before .before .before .args .session)) (c .before .before .before .before .before .response3 .given .1)))
+returns-4 c =
+    as-text (c .before .before .put-step .ensures)
+    (sym (ap (responseText (c .before .before .before .before .before .before .before .before .args .session))
+    (c .before .before .before .before .before .response3 .given .1)))
 
 pub put-response-spec : {M : Type 1} → statement M
 put-response-spec =

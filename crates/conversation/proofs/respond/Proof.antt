@@ -87,43 +87,69 @@ take-asked-requires c κs = search needs
 
 returns : tie.Need-returns
 unfolding answerTo
-returns c = λ u k. by-form (c .before .before .before .before .args .l) _ _ (c .before .before .before .form .ensures) (c .before .enum-told .given .1) u _ (c .malformed .ensures u k)
+returns c =
+    λ u k. by-form (c .before .before .before .before .args .l) _ _ (c .before .before .before .form .ensures) (c .before .enum-told .given .1) u _
+    (c .malformed .ensures u k)
 
 returns-2 : tie.Need-returns-2
-returns-2 c = λ u k. by-form (c .before .before .before .before .before .args .l) _ _ (c .before .before .before .before .form .ensures) (c .before .before .mv .given .1) u _ (c .take-entered .ensures u k)
+returns-2 c =
+    λ u k. by-form (c .before .before .before .before .before .args .l) _ _ (c .before .before .before .before .form .ensures)
+    (c .before .before .mv .given .1) u _ (c .take-entered .ensures u k)
 
 returns-3 : tie.Need-returns-3
-returns-3 c = λ u k. by-form (c .before .before .before .before .before .args .l) _ _ (c .before .before .before .before .form .ensures) (c .before .before .range .given .1) u _ (c .take-shot .ensures u k)
+returns-3 c =
+    λ u k. by-form (c .before .before .before .before .before .args .l) _ _ (c .before .before .before .before .form .ensures)
+    (c .before .before .range .given .1) u _ (c .take-shot .ensures u k)
 
 returns-4 : tie.Need-returns-4
-returns-4 c = λ u k. by-form (c .before .before .before .before .before .args .l) _ _ (c .before .before .before .before .form .ensures) (c .before .before .mean .given .1) u _ (c .take-speed-prior .ensures u k)
+returns-4 c =
+    λ u k. by-form (c .before .before .before .before .before .args .l) _ _ (c .before .before .before .before .form .ensures)
+    (c .before .before .mean .given .1) u _ (c .take-speed-prior .ensures u k)
 
 returns-5 : tie.Need-returns-5
-returns-5 c = λ u k. by-form (c .before .before .before .before .before .args .l) _ _ (c .before .before .before .before .form .ensures) (c .before .before .mean2 .given .1) u _ (c .take-coefficient-prior .ensures u k)
+returns-5 c =
+    λ u k. by-form (c .before .before .before .before .before .args .l) _ _ (c .before .before .before .before .form .ensures)
+    (c .before .before .mean2 .given .1) u _ (c .take-coefficient-prior .ensures u k)
 
 returns-6 : tie.Need-returns-6
-returns-6 c = λ u k. by-form (c .before .before .before .before .before .args .l) _ _ (c .before .before .before .before .form .ensures) (c .before .before .range2 .given .1) u _ (c .take-distance .ensures u k)
+returns-6 c =
+    λ u k. by-form (c .before .before .before .before .before .args .l) _ _ (c .before .before .before .before .form .ensures)
+    (c .before .before .range2 .given .1) u _ (c .take-distance .ensures u k)
 
 returns-7 : tie.Need-returns-7
-returns-7 c = λ u k. by-form (c .before .before .before .before .args .l) _ _ (c .before .before .before .form .ensures) (c .before .enum-told2 .given .1) u _ (c .take-open .ensures u k)
+returns-7 c =
+    λ u k. by-form (c .before .before .before .before .args .l) _ _ (c .before .before .before .form .ensures) (c .before .enum-told2 .given .1) u _
+    (c .take-open .ensures u k)
 
 returns-8 : tie.Need-returns-8
-returns-8 c = λ u k. by-form (c .before .before .before .before .args .l) _ _ (c .before .before .before .form .ensures) (c .before .enum-told3 .given .1) u _ (c .take-drops .ensures u k)
+returns-8 c =
+    λ u k. by-form (c .before .before .before .before .args .l) _ _ (c .before .before .before .form .ensures) (c .before .enum-told3 .given .1) u _
+    (c .take-drops .ensures u k)
 
 returns-9 : tie.Need-returns-9
-returns-9 c = λ u k. by-form (c .before .before .before .before .args .l) _ _ (c .before .before .before .form .ensures) (c .before .enum-told4 .given .1) u _ (c .take-refused .ensures u k)
+returns-9 c =
+    λ u k. by-form (c .before .before .before .before .args .l) _ _ (c .before .before .before .form .ensures) (c .before .enum-told4 .given .1) u _
+    (c .take-refused .ensures u k)
 
 returns-10 : tie.Need-returns-10
-returns-10 c = λ u k. by-form (c .before .before .before .before .before .args .l) _ _ (c .before .before .before .before .form .ensures) (c .before .before .place .given .1) u _ (c .take-put-in .ensures u k)
+returns-10 c =
+    λ u k. by-form (c .before .before .before .before .before .args .l) _ _ (c .before .before .before .before .form .ensures)
+    (c .before .before .place .given .1) u _ (c .take-put-in .ensures u k)
 
 returns-11 : tie.Need-returns-11
-returns-11 c = λ u k. by-form (c .before .before .before .before .before .args .l) _ _ (c .before .before .before .before .form .ensures) (c .before .before .place2 .given .1) u _ (c .take-take-out .ensures u k)
+returns-11 c =
+    λ u k. by-form (c .before .before .before .before .before .args .l) _ _ (c .before .before .before .before .form .ensures)
+    (c .before .before .place2 .given .1) u _ (c .take-take-out .ensures u k)
 
 returns-12 : tie.Need-returns-12
-returns-12 c = λ u k. by-form (c .before .before .before .before .before .args .l) _ _ (c .before .before .before .before .form .ensures) (c .before .before .place3 .given .1) u _ (c .take-exchange .ensures u k)
+returns-12 c =
+    λ u k. by-form (c .before .before .before .before .before .args .l) _ _ (c .before .before .before .before .form .ensures)
+    (c .before .before .place3 .given .1) u _ (c .take-exchange .ensures u k)
 
 returns-13 : tie.Need-returns-13
-returns-13 c = λ u k. by-form (c .before .before .before .before .args .l) _ _ (c .before .before .before .form .ensures) (c .before .enum-told5 .given .1) u _ (c .take-asked .ensures u k)
+returns-13 c =
+    λ u k. by-form (c .before .before .before .before .args .l) _ _ (c .before .before .before .form .ensures) (c .before .enum-told5 .given .1) u _
+    (c .take-asked .ensures u k)
 
 pub respond-spec : {M : Type 1} → statement M
 respond-spec =

@@ -15,7 +15,10 @@ malformed-requires c κs = search needs
 
 returns : tie.Need-returns
 unfolding answerTo
-returns c = λ u k. let a = c .before .before .before .args in late k takesCoefficient (collected u Distances (withCoefficient (u .request) (normal (a .mean) (a .sigma)))) _ (c .before .before .takes-coefficient .ensures) (not-true _ (c .before .if1 .taken)) (c .malformed .ensures u k)
+returns c =
+    λ u k. let a = c .before .before .before .args in
+    late k takesCoefficient (collected u Distances (withCoefficient (u .request) (normal (a .mean) (a .sigma)))) _
+    (c .before .before .takes-coefficient .ensures) (not-true _ (c .before .if1 .taken)) (c .malformed .ensures u k)
 
 with-coefficient-prior-requires : tie.Need-with-coefficient-prior-requires
 with-coefficient-prior-requires c κs = search needs

@@ -16,7 +16,10 @@ malformed-requires c κs = search needs
 
 returns : tie.Need-returns
 unfolding answerTo
-returns c = λ u k. let a = c .before .before .before .args in late k takesDistance (collected u Distances (withDistance (u .request) (requestedAt (a .range) (sigmaSays (a .sigma))))) _ (c .before .before .is-collecting .ensures) (not-true _ (c .before .if1 .taken)) (c .malformed .ensures u k)
+returns c =
+    λ u k. let a = c .before .before .before .args in
+    late k takesDistance (collected u Distances (withDistance (u .request) (requestedAt (a .range) (sigmaSays (a .sigma))))) _
+    (c .before .before .is-collecting .ensures) (not-true _ (c .before .if1 .taken)) (c .malformed .ensures u k)
 
 with-wanted-requires : tie.Need-with-wanted-requires
 with-wanted-requires c κs = search needs

@@ -1,6 +1,6 @@
 use Rattle.conversation.specs.Conversation.{answerTo, replyOf}
 use Rattle.forms.specs.Reading.{entriesIn}
-use Rattle.editing.specs.Meaning.{Replied}
+use Rattle.editing.proofs.Contracts.{Replied}
 use lib.Ieee.{Float}
 use lib.ListN.{length, take, length-take}
 use mathlib.Core.List.{List}
@@ -34,8 +34,11 @@ returns c = λ u k.
     let same : length (take (p .n) (p .missing)) ≡ length (take (p .n) (p .drops)) = simp length-take (ap (min (p .n)) (flags ∙ sym wide)) in
     c .after-call .ensures u (replyOf (entriesIn p)) k
     (replied-same (a .t .session) (take (p .n) (p .drops)) (take (p .n) (p .missing)) (c .before .reply3 .result) same
-    (subst (λ (ds : List Float). Replied (a .t .session) ds (take (p .n) (p .missing)) (c .before .reply3 .result)) (c .before .before .before .before .before .first-places .ensures)
-    (subst (λ (ms : List Bool). Replied (a .t .session) (c .before .before .before .before .before .first-places .result .now) ms (c .before .reply3 .result)) (c .before .before .first-flags .ensures) (c .before .reply3 .ensures))))
+    (subst (λ (ds : List Float). Replied (a .t .session) ds (take (p .n) (p .missing)) (c .before .reply3 .result))
+    (c .before .before .before .before .before .first-places .ensures)
+    (subst
+    (λ (ms : List Bool). Replied (a .t .session) (c .before .before .before .before .before .first-places .result .now) ms (c .before .reply3 .result))
+    (c .before .before .first-flags .ensures) (c .before .reply3 .ensures))))
 
 pub take-drops-spec : {M : Type 1} → statement M
 take-drops-spec =

@@ -15,7 +15,9 @@ after-call-requires c κs = search needs
 
 returns : tie.Need-returns
 unfolding answerTo
-returns c = λ u k. let a = c .before .before .before .args in c .after-call .ensures u (change (edits.exchange (a .place) (requestedAt (a .range) (sigmaSays (a .sigma))))) k (c .before .exchange .ensures)
+returns c =
+    λ u k. let a = c .before .before .before .args in
+    c .after-call .ensures u (change (edits.exchange (a .place) (requestedAt (a .range) (sigmaSays (a .sigma))))) k (c .before .exchange .ensures)
 
 pub take-exchange-spec : {M : Type 1} → statement M
 take-exchange-spec = tie.close (tie.spec exchange-requires after-call-requires returns)

@@ -15,7 +15,9 @@ after-call-requires c κs = search needs
 
 returns : tie.Need-returns
 unfolding answerTo
-returns c = λ u k. let a = c .before .before .before .args in c .after-call .ensures u (change (edits.putIn (a .place) (requestedAt (a .range) (sigmaSays (a .sigma))))) k (c .before .put-in .ensures)
+returns c =
+    λ u k. let a = c .before .before .before .args in
+    c .after-call .ensures u (change (edits.putIn (a .place) (requestedAt (a .range) (sigmaSays (a .sigma))))) k (c .before .put-in .ensures)
 
 pub take-put-in-spec : {M : Type 1} → statement M
 take-put-in-spec = tie.close (tie.spec put-in-requires after-call-requires returns)

@@ -15,7 +15,10 @@ malformed-requires c κs = search needs
 
 returns : tie.Need-returns
 unfolding answerTo
-returns c = λ u k. let a = c .before .before .before .args in late k takesShot (collected u Shots (withShot (u .request) (record { range = a .range; drop = a .drop; sigma = a .sigma }))) _ (c .before .before .takes-shots .ensures) (not-true _ (c .before .if1 .taken)) (c .malformed .ensures u k)
+returns c =
+    λ u k. let a = c .before .before .before .args in
+    late k takesShot (collected u Shots (withShot (u .request) (record { range = a .range; drop = a .drop; sigma = a .sigma }))) _
+    (c .before .before .takes-shots .ensures) (not-true _ (c .before .if1 .taken)) (c .malformed .ensures u k)
 
 with-shot-requires : tie.Need-with-shot-requires
 with-shot-requires c κs = search needs

@@ -15,7 +15,10 @@ malformed-requires c κs = search needs
 
 returns : tie.Need-returns
 unfolding answerTo
-returns c = λ u k. let a = c .before .before .before .args in late k takesShot (collected u Priors (withSpeed (u .request) (normal (a .mean) (a .sigma)))) _ (c .before .before .takes-shots .ensures) (not-true _ (c .before .if1 .taken)) (c .malformed .ensures u k)
+returns c =
+    λ u k. let a = c .before .before .before .args in
+    late k takesShot (collected u Priors (withSpeed (u .request) (normal (a .mean) (a .sigma)))) _ (c .before .before .takes-shots .ensures)
+    (not-true _ (c .before .if1 .taken)) (c .malformed .ensures u k)
 
 with-speed-prior-requires : tie.Need-with-speed-prior-requires
 with-speed-prior-requires c κs = search needs
@@ -25,7 +28,11 @@ collected-requires c κs = search needs
 
 returns-2 : tie.Need-returns-2
 unfolding answerTo
-returns-2 c = λ u k. let a = c .before .before .before .before .before .args in timely k takesShot (collected u Priors (withSpeed (u .request) (normal (a .mean) (a .sigma)))) _ (c .before .before .before .before .takes-shots .ensures) (not-false _ (c .before .before .before .if1 .left)) (c .collected .ensures u _ k (c .before .with-speed-prior .ensures (u .request) (k .request)))
+returns-2 c =
+    λ u k. let a = c .before .before .before .before .before .args in
+    timely k takesShot (collected u Priors (withSpeed (u .request) (normal (a .mean) (a .sigma)))) _
+    (c .before .before .before .before .takes-shots .ensures) (not-false _ (c .before .before .before .if1 .left))
+    (c .collected .ensures u _ k (c .before .with-speed-prior .ensures (u .request) (k .request)))
 
 pub take-speed-prior-spec : {M : Type 1} → statement M
 take-speed-prior-spec =

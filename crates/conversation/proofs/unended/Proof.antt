@@ -3,7 +3,7 @@ use Prim.Native.Nat.{ℕ}
 use mathlib.Core.Path.{ap, subst}
 use borrow.Author.Needs.{needs}
 use Rattle.texts.specs.Texts.{malformedText}
-use Rattle.texts.specs.Writing.{same-room}
+use Rattle.texts.proofs.Writing.{same-room}
 use Rattle.answers.specs.Answers.{line}
 use Rattle.conversation.specs.Tracks.{Fills}
 use Rattle.conversation.proofs.Responses.{malformed-fills}

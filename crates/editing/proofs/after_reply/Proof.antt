@@ -1,7 +1,8 @@
 -- `after_reply`: by the number of the reply, then by the gap.
 use borrow.Author.Needs.{needs}
-use mathlib.Core.Path.{refl, sym, subst}
-use Rattle.session.specs.Changing.{editOf, rowsFrom, Changed}
+use mathlib.Core.Path.{refl, subst}
+use Rattle.lists.specs.Changing.{editOf, rowsFrom}
+use Rattle.session.specs.Changing.{Changed}
 use Rattle.editing.proofs.Laws.{stands-as, reply-more, reply-gap, reply-whole}
 use Rattle.editing.proofs.after_reply.Statement.{statement}
 use Rattle.editing.proofs.after_reply.Tie as tie
@@ -20,7 +21,12 @@ asks-requires c κs = search needs
 
 returns : tie.Need-returns
 returns c =
-    λ c₀ at point fits. stands-as (c .asks .ensures) (reply-more (c .before .before .before .args .run) (c .before .before .before .args .change) (c .before .before .before .args .k) (c .before .before .before .args .p) (c .before .before .before .args .one) c₀ at point fits (c .before .stencil-point .result) _ (c .before .before .if1 .taken) refl (c .before .stencil-point .ensures))
+    let at-stencil-point = c .before in
+    let at-if1 = at-stencil-point .before in
+    let start = at-if1 .before in
+    λ c₀ at point fits. stands-as (c .asks .ensures)
+    (reply-more (start .args .run) (start .args .change) (start .args .k) (start .args .p) (start .args .one) c₀ at point fits
+    (at-stencil-point .stencil-point .result) _ (at-if1 .if1 .taken) refl (at-stencil-point .stencil-point .ensures))
 
 row-of-requires : tie.Need-row-of-requires
 row-of-requires c κs = search needs
@@ -36,14 +42,29 @@ closed-with-requires c κs = search needs
 
 returns-2 : tie.Need-returns-2
 returns-2 c =
-    λ c₀ at point fits. stands-as (c .closed-with .ensures) (reply-gap (c .before .before .before .before .before .before .before .args .run) (c .before .before .before .before .before .before .before .args .change) (c .before .before .before .before .before .before .before .args .k) (c .before .before .before .before .before .before .before .args .p) (c .before .before .before .before .before .before .before .args .one) c₀ at point fits (c .before .place-of .result) (c .before .before .before .before .before .before .if1 .left) (c .before .before .if2 .taken) (c .before .place-of .ensures))
+    let at-place-of = c .before in
+    let at-if2 = at-place-of .before in
+    let at-if1 = at-if2 .before .before .before .before in
+    let start = at-if1 .before in
+    λ c₀ at point fits. stands-as (c .closed-with .ensures)
+    (reply-gap (start .args .run) (start .args .change) (start .args .k) (start .args .p) (start .args .one) c₀ at point fits
+    (at-place-of .place-of .result) (at-if1 .if1 .left) (at-if2 .if2 .taken) (at-place-of .place-of .ensures))
 
 closed-with-requires-2 : tie.Need-closed-with-requires-2
 closed-with-requires-2 c κs = search needs
 
 returns-3 : tie.Need-returns-3
 returns-3 c =
-    λ c₀ at point fits. stands-as (c .closed-with2 .ensures) (reply-whole (c .before .before .before .before .before .before .args .run) (c .before .before .before .before .before .before .args .change) (c .before .before .before .before .before .before .args .k) (c .before .before .before .before .before .before .args .p) (c .before .before .before .before .before .before .args .one) c₀ at point fits (c .before .before .before .changed .result) (c .before .before .before .before .before .if1 .left) (c .before .if2 .left) (subst (λ x. Changed (c .before .before .before .before .before .before .args .run) (editOf (c .before .before .before .before .before .before .args .change)) (rowsFrom x) (c .before .before .before .changed .result)) (c .before .before .before .before .row-of .ensures) (c .before .before .before .changed .ensures)))
+    let at-if2 = c .before in
+    let at-changed = at-if2 .before .before in
+    let at-row-of = at-changed .before in
+    let at-if1 = at-row-of .before in
+    let start = at-if1 .before in
+    λ c₀ at point fits. stands-as (c .closed-with2 .ensures)
+    (reply-whole (start .args .run) (start .args .change) (start .args .k) (start .args .p) (start .args .one) c₀ at point fits
+    (at-changed .changed .result) (at-if1 .if1 .left) (at-if2 .if2 .left)
+    (subst (λ x. Changed (start .args .run) (editOf (start .args .change)) (rowsFrom x) (at-changed .changed .result)) (at-row-of .row-of .ensures)
+    (at-changed .changed .ensures)))
 
 pub after-reply-spec : {M : Type 1} → statement M
 after-reply-spec =

@@ -15,7 +15,9 @@ enum-known-edit c = search needs
 
 returns : tie.Need-returns
 returns c =
-    run-result (c .before .before .before .before .args .s) (c .before .enum-told .given .1) (c .before .before .before .before .args .i) _ (c .observation-result .ensures)
+    let at-enum-told = c .before in
+    let start = at-enum-told .before .before .before in
+    run-result (start .args .s) (at-enum-told .enum-told .given .1) (start .args .i) _ (c .observation-result .ensures)
 
 returns-2 : tie.Need-returns-2
 returns-2 c =

@@ -1,6 +1,6 @@
 -- `open_point`: where the run stands and the edit fits its list.
 use borrow.Author.Needs.{needs}
-use Rattle.session.specs.Changing.{editOf}
+use Rattle.lists.specs.Changing.{editOf}
 use Rattle.editing.proofs.Laws.{point-unfitted, point-here, point-absent}
 use Rattle.editing.proofs.open_point.Statement.{statement}
 use Rattle.editing.proofs.open_point.Tie as tie
@@ -25,15 +25,33 @@ puts-questions-requires c κs = search needs
 
 returns : tie.Need-returns
 returns c =
-    point-here (c .before .before .before .before .before .before .before .fit-of .result) _ (editOf (c .before .before .before .before .before .before .before .before .args .change)) (c .before .before .before .before .before .before .before .fit-of .ensures) _ _ (c .before .before .before .is-placed .result) (c .before .before .has-room .result) (c .before .puts-questions .result) (c .before .before .before .before .before .p .given .1) (c .before .before .before .is-placed .ensures) (c .before .before .has-room .ensures) (c .before .puts-questions .ensures) (c .if1 .taken)
+    let at-puts-questions = c .before in
+    let at-has-room = at-puts-questions .before in
+    let at-is-placed = at-has-room .before in
+    let at-p = at-is-placed .before .before in
+    let at-fit-of = at-p .before .before in
+    let start = at-fit-of .before in
+    point-here (at-fit-of .fit-of .result) _ (editOf (start .args .change)) (at-fit-of .fit-of .ensures) _ _ (at-is-placed .is-placed .result)
+    (at-has-room .has-room .result) (at-puts-questions .puts-questions .result) (at-p .p .given .1) (at-is-placed .is-placed .ensures)
+    (at-has-room .has-room .ensures) (at-puts-questions .puts-questions .ensures) (c .if1 .taken)
 
 returns-2 : tie.Need-returns-2
 returns-2 c =
-    point-unfitted (c .before .before .fit-of .result) _ (editOf (c .before .before .before .args .change)) (c .before .before .fit-of .ensures) (c .enum-told .given .1)
+    let at-fit-of = c .before .before in
+    let start = at-fit-of .before in
+    point-unfitted (at-fit-of .fit-of .result) _ (editOf (start .args .change)) (at-fit-of .fit-of .ensures) (c .enum-told .given .1)
 
 returns-3 : tie.Need-returns-3
 returns-3 c =
-    point-absent (c .before .before .before .before .before .before .before .fit-of .result) _ (editOf (c .before .before .before .before .before .before .before .before .args .change)) (c .before .before .before .before .before .before .before .fit-of .ensures) _ _ (c .before .before .before .is-placed .result) (c .before .before .has-room .result) (c .before .puts-questions .result) (c .before .before .before .before .before .p .given .1) (c .before .before .before .is-placed .ensures) (c .before .before .has-room .ensures) (c .before .puts-questions .ensures) (c .if1 .left)
+    let at-puts-questions = c .before in
+    let at-has-room = at-puts-questions .before in
+    let at-is-placed = at-has-room .before in
+    let at-p = at-is-placed .before .before in
+    let at-fit-of = at-p .before .before in
+    let start = at-fit-of .before in
+    point-absent (at-fit-of .fit-of .result) _ (editOf (start .args .change)) (at-fit-of .fit-of .ensures) _ _ (at-is-placed .is-placed .result)
+    (at-has-room .has-room .result) (at-puts-questions .puts-questions .result) (at-p .p .given .1) (at-is-placed .is-placed .ensures)
+    (at-has-room .has-room .ensures) (at-puts-questions .puts-questions .ensures) (c .if1 .left)
 
 pub open-point-spec : {M : Type 1} → statement M
 open-point-spec =

@@ -21,7 +21,10 @@ refuse-new-requires c κs = search needs
 
 returns : tie.Need-returns
 returns c =
-    run-refused (c .before .before .before .before .before .args .s) (c .before .before .enum-told .given .1) (c .before .refuse .result) _ (c .before .refuse .ensures) (c .of-run .ensures)
+    let at-refuse = c .before in
+    let at-enum-told = at-refuse .before in
+    let start = at-enum-told .before .before .before in
+    run-refused (start .args .s) (at-enum-told .enum-told .given .1) (at-refuse .refuse .result) _ (at-refuse .refuse .ensures) (c .of-run .ensures)
 
 returns-2 : tie.Need-returns-2
 returns-2 c =

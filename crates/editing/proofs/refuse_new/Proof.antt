@@ -23,11 +23,19 @@ closed-with-requires c κs = search needs
 
 returns : tie.Need-returns
 returns c =
-    no-refusal (c .before .before .before .before .args .run) (c .before .before .before .before .args .asking) _ (sym (c .before .before .before .open-point .ensures) ∙ ap pointSays (c .before .enum-told .given .1)) (c .declined .ensures)
+    let at-enum-told = c .before in
+    let at-open-point = at-enum-told .before .before in
+    let start = at-open-point .before in
+    no-refusal (start .args .run) (start .args .asking) _
+    (sym (at-open-point .open-point .ensures) ∙ ap pointSays (at-enum-told .enum-told .given .1)) (c .declined .ensures)
 
 returns-2 : tie.Need-returns-2
 returns-2 c =
-    point-refused (c .before .before .before .before .before .args .run) (c .before .before .before .before .before .args .asking) _ (sym (c .before .before .before .before .open-point .ensures) ∙ ap pointSays (c .before .before .-p .given .1)) _ (c .closed-with .ensures)
+    let at--p = c .before .before in
+    let at-open-point = at--p .before .before in
+    let start = at-open-point .before in
+    point-refused (start .args .run) (start .args .asking) _ (sym (at-open-point .open-point .ensures) ∙ ap pointSays (at--p .-p .given .1)) _
+    (c .closed-with .ensures)
 
 pub refuse-new-spec : {M : Type 1} → statement M
 refuse-new-spec =

@@ -21,11 +21,17 @@ reply-new-requires c κs = search needs
 
 returns : tie.Need-returns
 returns c =
-    run-replied (c .before .before .before .before .before .before .before .args .s) (c .before .before .enum-told .given .1) (c .before .before .before .before .before .before .before .args .reply .now) (c .before .before .before .before .before .before .before .args .missing .now) (c .before .reply .result) _ (c .before .reply .ensures) (c .of-run .ensures)
+    let at-reply = c .before in
+    let at-enum-told = at-reply .before in
+    let start = at-enum-told .before .before .before .before .before in
+    run-replied (start .args .s) (at-enum-told .enum-told .given .1) (start .args .reply .now) (start .args .missing .now) (at-reply .reply .result) _
+    (at-reply .reply .ensures) (c .of-run .ensures)
 
 returns-2 : tie.Need-returns-2
 returns-2 c =
-    edit-replied (c .before .before .before .before .before .before .before .args .s) _ (c .before .before .edit .given .1) (c .before .before .before .before .before .before .before .args .reply .now) (c .before .before .before .before .before .before .before .args .missing .now) _ (c .reply-new .ensures)
+    let at-edit = c .before .before in
+    let start = at-edit .before .before .before .before .before in
+    edit-replied (start .args .s) _ (at-edit .edit .given .1) (start .args .reply .now) (start .args .missing .now) _ (c .reply-new .ensures)
 
 pub reply-spec : {M : Type 1} → statement M
 reply-spec =

@@ -3,7 +3,7 @@ use borrow.Author.Needs.{needs}
 use mathlib.Core.Path.{sym, _∙_}
 use borrow.Author.Tests.{not-false}
 use Rattle.definition.specs.Whole.{takeOut}
-use Rattle.session.proofs.CallLaws.{failed}
+use Rattle.session.proofs.Laws.{failed}
 use Rattle.editing.proofs.Calls.{none-edited, not-placed, taken-out}
 use Rattle.editing.proofs.take_out.Statement.{statement}
 use Rattle.editing.proofs.take_out.Tie as tie
@@ -28,7 +28,13 @@ declined-requires-2 c κs = search needs
 
 returns : tie.Need-returns
 returns c =
-    not-placed (c .before .before .before .before .before .before .before .before .args .s) (c .before .before .before .before .before .before .standing .result) (c .before .before .before .before .before .before .standing .ensures) _ _ (c .before .before .before .before .-p .given .1) (takeOut (c .before .before .before .before .before .before .before .before .args .place)) _ (failed _ _ (c .before .before .is-placed .ensures) (c .before .if1 .taken)) (c .declined2 .ensures)
+    let at-if1 = c .before in
+    let at-is-placed = at-if1 .before in
+    let at--p = at-is-placed .before .before in
+    let at-standing = at--p .before .before in
+    let start = at-standing .before .before in
+    not-placed (start .args .s) (at-standing .standing .result) (at-standing .standing .ensures) _ _ (at--p .-p .given .1)
+    (takeOut (start .args .place)) _ (failed _ _ (at-is-placed .is-placed .ensures) (at-if1 .if1 .taken)) (c .declined2 .ensures)
 
 changed-requires : tie.Need-changed-requires
 changed-requires c κs = search needs
@@ -38,11 +44,23 @@ closed-with-requires c κs = search needs
 
 returns-2 : tie.Need-returns-2
 returns-2 c =
-    none-edited (c .before .before .before .before .before .args .s) (c .before .before .before .standing .result) (c .before .before .before .standing .ensures) (takeOut (c .before .before .before .before .before .args .place)) _ (c .before .enum-told .given .1) (c .declined .ensures)
+    let at-enum-told = c .before in
+    let at-standing = at-enum-told .before .before in
+    let start = at-standing .before .before in
+    none-edited (start .args .s) (at-standing .standing .result) (at-standing .standing .ensures) (takeOut (start .args .place)) _
+    (at-enum-told .enum-told .given .1) (c .declined .ensures)
 
 returns-3 : tie.Need-returns-3
 returns-3 c =
-    taken-out (c .before .before .before .before .before .before .before .before .before .args .s) (c .before .before .before .before .before .before .before .standing .result) (c .before .before .before .before .before .before .before .standing .ensures) _ _ (c .before .before .before .before .before .-p .given .1) (c .before .before .before .before .before .before .before .before .before .args .place) _ (c .before .changed .result) _ (sym (c .before .before .before .is-placed .ensures) ∙ not-false _ (c .before .before .if1 .left)) (c .before .changed .ensures) (c .closed-with .ensures)
+    let at-changed = c .before in
+    let at-if1 = at-changed .before in
+    let at-is-placed = at-if1 .before in
+    let at--p = at-is-placed .before .before in
+    let at-standing = at--p .before .before in
+    let start = at-standing .before .before in
+    taken-out (start .args .s) (at-standing .standing .result) (at-standing .standing .ensures) _ _ (at--p .-p .given .1) (start .args .place) _
+    (at-changed .changed .result) _ (sym (at-is-placed .is-placed .ensures) ∙ not-false _ (at-if1 .if1 .left)) (at-changed .changed .ensures)
+    (c .closed-with .ensures)
 
 pub take-out-spec : {M : Type 1} → statement M
 take-out-spec =

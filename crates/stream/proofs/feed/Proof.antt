@@ -18,12 +18,18 @@ blank-reader-requires c κs = search needs
 
 returns : tie.Need-returns
 returns c =
-    let a = c .before .before .before .before .before .before .before .before .before .before .before .args in
-    feed-line (a .t) (a .bytes .now) (a .at) (c .before .before .before .before .before .before .before .scan .result) (c .before .before .before .before .before .before .before .scan .ensures) _ _ (c .before .before .before .before .whole-line .result) (c .before .before .answer .result) (c .blank-reader .result)
-    (c .before .before .before .before .before .if1 .taken) (c .before .before .before .before .whole-line .ensures) (c .before .before .answer .ensures) (c .blank-reader .ensures)
+    let c1 = c .before .before .before .before in
+    let c2 = c1 .before .before .before in
+    let c3 = c2 .before .before .before .before in
+    let a = c3 .args in
+    feed-line (a .t) (a .bytes .now) (a .at) (c2 .scan .result) (c2 .scan .ensures) _ _ (c1 .whole-line .result) (c .before .before .answer .result)
+    (c .blank-reader .result)
+    (c1 .before .if1 .taken) (c1 .whole-line .ensures) (c .before .before .answer .ensures) (c .blank-reader .ensures)
 
 returns-2 : tie.Need-returns-2
-returns-2 c = let a = c .before .before .before .before .before .before .args in feed-none (a .t) (a .bytes .now) (a .at) (c .before .before .scan .result) (c .before .before .scan .ensures) _ (c .if1 .left)
+returns-2 c =
+    let c1 = c .before .before .before .before .before .before in
+    let a = c1 .args in feed-none (a .t) (a .bytes .now) (a .at) (c .before .before .scan .result) (c .before .before .scan .ensures) _ (c .if1 .left)
 
 pub feed-spec : {M : Type 1} → statement M
 feed-spec = tie.close (tie.spec scan-requires whole-line-requires answer-requires blank-reader-requires returns returns-2)

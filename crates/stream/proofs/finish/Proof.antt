@@ -12,7 +12,9 @@ unended-requires c κs = search needs
 returns : tie.Need-returns
 returns c = record {
   room = c .unended .ensures .room;
-  goes = λ t s k. subst (Fills _ _ _) (unended-some t s (sym (k .reader .begun) ∙ c .before .before .if1 .taken)) (c .unended .ensures .goes t (k .conversation));
+  goes =
+      λ t s k. subst (Fills _ _ _) (unended-some t s (sym (k .reader .begun) ∙ c .before .before .if1 .taken))
+      (c .unended .ensures .goes t (k .conversation));
 }
 
 returns-2 : tie.Need-returns-2

@@ -35,9 +35,12 @@ add-i c = omega arith
 
 returns : tie.Need-returns Inv-loop μ-loop
 returns c =
-    let a = c .before .before .before .before .before .before .before .args in
-    let l = c .before .before .before .loop in
-    scan-ends (a .bytes .now) (a .r) (a .at) (readerIn (l .word) (l .len) (l .first) (l .begun) (l .line)) (l .i) (l .inv) (c .before .before .loop-test .taken) (c .if1 .taken)
+    let c1 = c .before .before .before in
+    let c2 = c1 .before .before .before .before in
+    let a = c2 .args in
+    let l = c1 .loop in
+    scan-ends (a .bytes .now) (a .r) (a .at) (readerIn (l .word) (l .len) (l .first) (l .begun) (l .line)) (l .i) (l .inv)
+    (c .before .before .loop-test .taken) (c .if1 .taken)
 
 word-of-requires : tie.Need-word-of-requires Inv-loop μ-loop
 word-of-requires c κs = search needs
@@ -50,11 +53,15 @@ loop-less c = let e = c .before .before .before .before .before .before .loop-te
 
 loop-again : tie.Need-loop-again Inv-loop μ-loop
 loop-again c =
-    let a = c .before .before .before .before .before .before .before .before .before .before .before .args in
-    let l = c .before .before .before .before .before .before .before .loop in
-    scan-on (a .bytes .now) (a .r) (a .at) (readerIn (l .word) (l .len) (l .first) (l .begun) (l .line)) (l .i) (l .inv) (c .before .before .before .before .before .before .loop-test .taken) _ (c .before .before .before .before .if1 .left) (λ s k.
+    let c1 = c .before .before .before in
+    let c2 = c1 .before .before .before in
+    let c3 = c2 .before .before .before .before .before in
+    let a = c3 .args in
+    let l = c2 .before .loop in
+    scan-on (a .bytes .now) (a .r) (a .at) (readerIn (l .word) (l .len) (l .first) (l .begun) (l .line)) (l .i) (l .inv) (c2 .loop-test .taken) _
+    (c1 .before .if1 .left) (λ s k.
     reads-blank (readerIn (l .word) (l .len) (l .first) (l .begun) (l .line)) s k (getD (a .bytes .now) (l .i) 0) (c .take .result)
-    (eq-eqb (getD (a .bytes .now) (l .i) 0) 32 (c .before .before .before .if2 .taken))
+    (eq-eqb (getD (a .bytes .now) (l .i) 0) 32 (c1 .if2 .taken))
     (c .take .ensures ∙ ap (λ (w : List ℕ). takeOf (l .line) w (l .first) false) (c .before .word-of .ensures)))
 
 array-write-word : tie.Need-array-write-word Inv-loop μ-loop
@@ -68,9 +75,12 @@ loop-less-2 c = omega arith
 
 loop-again-2 : tie.Need-loop-again-2 Inv-loop μ-loop
 loop-again-2 c =
-    let a = c .before .before .before .before .before .before .before .before .before .args in
-    let l = c .before .before .before .before .before .loop in
-    scan-on (a .bytes .now) (a .r) (a .at) (readerIn (l .word) (l .len) (l .first) (l .begun) (l .line)) (l .i) (l .inv) (c .before .before .before .before .loop-test .taken) _ (c .before .before .if1 .left) (λ s k.
+    let c1 = c .before .before .before .before in
+    let c2 = c1 .before .before .before .before .before in
+    let a = c2 .args in
+    let l = c1 .before .loop in
+    scan-on (a .bytes .now) (a .r) (a .at) (readerIn (l .word) (l .len) (l .first) (l .begun) (l .line)) (l .i) (l .inv) (c1 .loop-test .taken) _
+    (c .before .before .if1 .left) (λ s k.
     reads-more (readerIn (l .word) (l .len) (l .first) (l .begun) (l .line)) s k (getD (a .bytes .now) (l .i) 0)
     (ne-eqb (getD (a .bytes .now) (l .i) 0) 32 (c .before .if2 .left)) (c .if3 .taken))
 
@@ -79,9 +89,12 @@ loop-less-3 c = omega arith
 
 loop-again-3 : tie.Need-loop-again-3 Inv-loop μ-loop
 loop-again-3 c =
-    let a = c .before .before .before .before .before .before .before .before .before .args in
-    let l = c .before .before .before .before .before .loop in
-    scan-on (a .bytes .now) (a .r) (a .at) (readerIn (l .word) (l .len) (l .first) (l .begun) (l .line)) (l .i) (l .inv) (c .before .before .before .before .loop-test .taken) _ (c .before .before .if1 .left) (λ s k.
+    let c1 = c .before .before .before .before in
+    let c2 = c1 .before .before .before .before .before in
+    let a = c2 .args in
+    let l = c1 .before .loop in
+    scan-on (a .bytes .now) (a .r) (a .at) (readerIn (l .word) (l .len) (l .first) (l .begun) (l .line)) (l .i) (l .inv) (c1 .loop-test .taken) _
+    (c .before .before .if1 .left) (λ s k.
     reads-full (readerIn (l .word) (l .len) (l .first) (l .begun) (l .line)) s k (getD (a .bytes .now) (l .i) 0)
     (ne-eqb (getD (a .bytes .now) (l .i) 0) 32 (c .before .if2 .left)) (c .if3 .left))
 

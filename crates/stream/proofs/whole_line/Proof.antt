@@ -15,7 +15,10 @@ take-requires : tie.Need-take-requires
 take-requires c κs = search needs
 
 returns : tie.Need-returns
-returns c = λ s k. let a = c .before .before .before .before .before .before .args in ap formIn (c .take .ensures ∙ ap (λ (w : List ℕ). takeOf (a .t1 .line) w (a .t1 .first) true) (c .before .first-bytes .ensures)) ∙ ends-line (a .t1) s k
+returns c =
+    let c1 = c .before .before .before .before .before .before in
+    λ s k. let a = c1 .args in
+    ap formIn (c .take .ensures ∙ ap (λ (w : List ℕ). takeOf (a .t1 .line) w (a .t1 .first) true) (c .before .first-bytes .ensures)) ∙ ends-line (a .t1) s k
 
 pub whole-line-spec : {M : Type 1} → statement M
 whole-line-spec = tie.close (tie.spec first-bytes-requires take-requires returns)

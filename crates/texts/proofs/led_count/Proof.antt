@@ -1,6 +1,6 @@
 -- `texts::led_count` meets its contract. Assumes nothing.
 use borrow.Author.Needs.{needs}
-use Rattle.texts.specs.Writing.{then, same-room}
+use Rattle.texts.proofs.Writing.{then, same-room}
 use Rattle.texts.proofs.led_count.Statement.{statement}
 use Rattle.texts.proofs.led_count.Tie as tie
 

@@ -1,6 +1,6 @@
 -- `texts::led_word` meets its contract. Assumes nothing.
 use borrow.Author.Needs.{needs}
-use Rattle.texts.specs.Writing.{then}
+use Rattle.texts.proofs.Writing.{then}
 use Rattle.texts.proofs.led_word.Statement.{statement}
 use Rattle.texts.proofs.led_word.Tie as tie
 

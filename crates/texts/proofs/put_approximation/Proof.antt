@@ -1,8 +1,8 @@
 -- `texts::put_approximation` meets its contract. Assumes nothing.
 use borrow.Author.Needs.{needs}
 use Rattle.words.specs.Words.{wordAt}
-use Rattle.texts.specs.Writing.{then, as-text, same-room}
-use Rattle.texts.specs.Laws.{in-brackets}
+use Rattle.texts.proofs.Writing.{then, as-text, same-room}
+use Rattle.texts.proofs.Laws.{in-brackets}
 use Rattle.texts.specs.Texts.{approximationText}
 use Rattle.texts.proofs.put_approximation.Statement.{statement}
 use Rattle.texts.proofs.put_approximation.Tie as tie
@@ -41,8 +41,11 @@ same-length-2 c = search needs
 returns-2 : tie.Need-returns-2
 unfolding approximationText wordAt
 returns-2 c =
-    as-text (then (c .before .before .before .before .before .before .before .before .before .before .before .put-start .ensures) (then (as-text (c .before .before .before .before .before .before .put-word .ensures)
-    (c .before .before .before .before .before .before .before .failure-word .ensures)) (c .before .before .put-byte .ensures))) (simp (c .before .before .before .before .before .before .before .before .before .before .before .before .before .before .a2 .given .1)
+    let c1 = c .before .before .before .before .before .before in
+    let c2 = c1 .before .before .before .before .before in
+    let c3 = c2 .before .before .before in
+    as-text (then (c2 .put-start .ensures) (then (as-text (c1 .put-word .ensures)
+    (c1 .before .failure-word .ensures)) (c .before .before .put-byte .ensures))) (simp (c3 .a2 .given .1)
     (in-brackets _))
 
 pub put-approximation-spec : {M : Type 1} → statement M

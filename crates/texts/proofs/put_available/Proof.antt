@@ -1,8 +1,8 @@
 -- `texts::put_available` meets its contract. Assumes nothing.
 use borrow.Author.Needs.{needs}
 use Rattle.words.specs.Words.{wordAt}
-use Rattle.texts.specs.Writing.{then, as-text, same-room}
-use Rattle.texts.specs.Laws.{in-brackets}
+use Rattle.texts.proofs.Writing.{then, as-text, same-room}
+use Rattle.texts.proofs.Laws.{in-brackets}
 use Rattle.texts.specs.Texts.{availableText}
 use Rattle.texts.proofs.put_available.Statement.{statement}
 use Rattle.texts.proofs.put_available.Tie as tie
@@ -36,25 +36,41 @@ put-byte-requires-3 c κs = search needs
 
 same-length : tie.Need-same-length
 same-length c =
-    same-room (then (c .before .before .before .before .before .before .before .before .before .before .before .before .before .before .before .before .before .before .before .before .before .before .before .before .before .before .before .before .before .before .before .before .before .before .put-start .ensures)
-    (then (c .before .before .before .before .before .before .before .before .before .before .before .before .before .before .before .before .before .before .before .before .before .before .before .before .before .before .before .before .before .before .put-covariance .ensures)
-    (then (c .before .before .before .before .before .before .before .before .before .before .before .before .before .before .before .before .before .before .before .before .before .before .before .before .before .before .put-byte .ensures)
-    (then (c .before .before .before .before .before .before .before .before .before .before .before .before .before .before .before .before .before .before .before .before .before .before .put-gaussian .ensures)
-    (then (c .before .before .before .before .before .before .before .before .before .before .before .before .before .before .before .before .before .before .put-byte2 .ensures)
-    (then (c .before .before .before .before .before .before .before .before .before .before .before .before .before .before .put-gaussian2 .ensures)
-    (then (c .before .before .before .before .before .before .before .before .before .before .led-double .ensures) (then (c .before .before .before .before .before .before .led-double2 .ensures)
+    let c1 = c .before .before .before .before .before .before in
+    let c2 = c1 .before .before .before .before in
+    let c3 = c2 .before .before .before .before in
+    let c4 = c3 .before .before .before .before in
+    let c5 = c4 .before .before .before .before in
+    let c6 = c5 .before .before .before .before in
+    let c7 = c6 .before .before .before .before in
+    let c8 = c7 .before .before .before .before in
+    same-room (then (c8 .put-start .ensures)
+    (then (c7 .put-covariance .ensures)
+    (then (c6 .put-byte .ensures)
+    (then (c5 .put-gaussian .ensures)
+    (then (c4 .put-byte2 .ensures)
+    (then (c3 .put-gaussian2 .ensures)
+    (then (c2 .led-double .ensures) (then (c1 .led-double2 .ensures)
     (c .before .before .put-byte3 .ensures)))))))))
 
 returns : tie.Need-returns
 unfolding availableText wordAt
 returns c =
-    as-text (then (c .before .before .before .before .before .before .before .before .before .before .before .before .before .before .before .before .before .before .before .before .before .before .before .before .before .before .before .before .before .before .before .before .before .before .put-start .ensures)
-    (then (c .before .before .before .before .before .before .before .before .before .before .before .before .before .before .before .before .before .before .before .before .before .before .before .before .before .before .before .before .before .before .put-covariance .ensures)
-    (then (c .before .before .before .before .before .before .before .before .before .before .before .before .before .before .before .before .before .before .before .before .before .before .before .before .before .before .put-byte .ensures)
-    (then (c .before .before .before .before .before .before .before .before .before .before .before .before .before .before .before .before .before .before .before .before .before .before .put-gaussian .ensures)
-    (then (c .before .before .before .before .before .before .before .before .before .before .before .before .before .before .before .before .before .before .put-byte2 .ensures)
-    (then (c .before .before .before .before .before .before .before .before .before .before .before .before .before .before .put-gaussian2 .ensures)
-    (then (c .before .before .before .before .before .before .before .before .before .before .led-double .ensures) (then (c .before .before .before .before .before .before .led-double2 .ensures)
+    let c1 = c .before .before .before .before .before .before in
+    let c2 = c1 .before .before .before .before in
+    let c3 = c2 .before .before .before .before in
+    let c4 = c3 .before .before .before .before in
+    let c5 = c4 .before .before .before .before in
+    let c6 = c5 .before .before .before .before in
+    let c7 = c6 .before .before .before .before in
+    let c8 = c7 .before .before .before .before in
+    as-text (then (c8 .put-start .ensures)
+    (then (c7 .put-covariance .ensures)
+    (then (c6 .put-byte .ensures)
+    (then (c5 .put-gaussian .ensures)
+    (then (c4 .put-byte2 .ensures)
+    (then (c3 .put-gaussian2 .ensures)
+    (then (c2 .led-double .ensures) (then (c1 .led-double2 .ensures)
     (c .before .before .put-byte3 .ensures))))))))) (in-brackets _)
 
 pub put-available-spec : {M : Type 1} → statement M

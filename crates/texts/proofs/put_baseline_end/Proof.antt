@@ -1,6 +1,6 @@
 -- `texts::put_baseline_end` meets its contract. Assumes nothing.
 use borrow.Author.Needs.{needs}
-use Rattle.texts.specs.Writing.{as-text, same-room}
+use Rattle.texts.proofs.Writing.{as-text, same-room}
 use Rattle.texts.specs.Pieces.{baselineEnd}
 use Rattle.texts.proofs.put_baseline_end.Statement.{statement}
 use Rattle.texts.proofs.put_baseline_end.Tie as tie

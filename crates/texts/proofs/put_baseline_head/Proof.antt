@@ -1,7 +1,7 @@
 -- `texts::put_baseline_head` meets its contract. Assumes nothing.
 use borrow.Author.Needs.{needs}
 use Rattle.words.specs.Words.{wordAt}
-use Rattle.texts.specs.Writing.{as-text, same-room}
+use Rattle.texts.proofs.Writing.{as-text, same-room}
 use Rattle.texts.specs.Pieces.{baselineHead}
 use Rattle.texts.proofs.put_baseline_head.Statement.{statement}
 use Rattle.texts.proofs.put_baseline_head.Tie as tie

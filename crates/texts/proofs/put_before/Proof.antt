@@ -1,7 +1,7 @@
 -- `texts::put_before` meets its contract. Assumes nothing.
 use borrow.Author.Needs.{needs}
-use Rattle.texts.specs.Writing.{as-text, same-room}
-use Rattle.texts.specs.Laws.{later}
+use Rattle.texts.proofs.Writing.{as-text, same-room}
+use Rattle.texts.proofs.Laws.{later}
 use Rattle.texts.proofs.put_before.Statement.{statement}
 use Rattle.texts.proofs.put_before.Tie as tie
 

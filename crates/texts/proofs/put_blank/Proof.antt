@@ -1,6 +1,6 @@
 -- `texts::put_blank` meets its contract. Assumes nothing.
 use borrow.Author.Needs.{needs}
-use Rattle.texts.specs.Writing.{as-text, same-room}
+use Rattle.texts.proofs.Writing.{as-text, same-room}
 use Rattle.texts.proofs.put_blank.Statement.{statement}
 use Rattle.texts.proofs.put_blank.Tie as tie
 

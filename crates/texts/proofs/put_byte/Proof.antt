@@ -1,6 +1,6 @@
 -- `texts::put_byte` meets its contract. Assumes nothing.
 use borrow.Author.Needs.{needs}
-use Rattle.texts.specs.Writing.{byte-in, byte-out}
+use Rattle.texts.proofs.Writing.{byte-in, byte-out}
 use Rattle.texts.proofs.put_byte.Statement.{statement}
 use Rattle.texts.proofs.put_byte.Tie as tie
 

@@ -4,7 +4,8 @@ use borrow.Author.Needs.{needs}
 use native.Mathlib.Omega.{arith}
 use lib.ListN.{length, take}
 use lib.Seq.{take-all}
-use Rattle.texts.specs.Writing.{Writes, nothing, byte-more, as-text, same-room}
+use Rattle.texts.specs.Writing.{Writes}
+use Rattle.texts.proofs.Writing.{nothing, byte-more, as-text, same-room}
 use Rattle.texts.proofs.put_bytes.Statement.{statement}
 use Rattle.texts.proofs.put_bytes.Tie as tie
 

@@ -1,7 +1,7 @@
 -- `texts::put_count` meets its contract. The digits stand at the start of the 20 bytes. Assumes nothing.
 use borrow.Author.Needs.{needs}
 use Rattle.forms.specs.Numbers.{countText}
-use Rattle.texts.specs.Writing.{as-text}
+use Rattle.texts.proofs.Writing.{as-text}
 use Rattle.texts.proofs.Starts.{text-fits, text-length, text-there}
 use Rattle.texts.proofs.put_count.Statement.{statement}
 use Rattle.texts.proofs.put_count.Tie as tie

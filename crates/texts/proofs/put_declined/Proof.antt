@@ -1,8 +1,8 @@
 -- `texts::put_declined` meets its contract. Assumes nothing.
 use borrow.Author.Needs.{needs}
 use Rattle.words.specs.Words.{wordAt}
-use Rattle.texts.specs.Writing.{then, as-text, same-room}
-use Rattle.texts.specs.Laws.{in-brackets}
+use Rattle.texts.proofs.Writing.{then, as-text, same-room}
+use Rattle.texts.proofs.Laws.{in-brackets}
 use Rattle.texts.specs.Texts.{declinedText}
 use Rattle.texts.proofs.put_declined.Statement.{statement}
 use Rattle.texts.proofs.put_declined.Tie as tie
@@ -20,13 +20,20 @@ put-byte-requires : tie.Need-put-byte-requires
 put-byte-requires c κs = search needs
 
 same-length : tie.Need-same-length
-same-length c = same-room (then (c .before .before .before .before .before .before .before .before .before .before .before .before .before .before .put-start .ensures) (then (c .before .before .before .before .before .before .before .before .before .before .put-count .ensures) (then (c .before .before .before .before .before .before .led-count .ensures) (c .before .before .put-byte .ensures))))
+same-length c =
+    let c1 = c .before .before .before .before .before .before in
+    let c2 = c1 .before .before .before .before in
+    let c3 = c2 .before .before .before .before in
+    same-room (then (c3 .put-start .ensures) (then (c2 .put-count .ensures) (then (c1 .led-count .ensures) (c .before .before .put-byte .ensures))))
 
 returns : tie.Need-returns
 unfolding declinedText wordAt
 returns c =
-    as-text (then (c .before .before .before .before .before .before .before .before .before .before .before .before .before .before .put-start .ensures)
-    (then (c .before .before .before .before .before .before .before .before .before .before .put-count .ensures) (then (c .before .before .before .before .before .before .led-count .ensures)
+    let c1 = c .before .before .before .before .before .before in
+    let c2 = c1 .before .before .before .before in
+    let c3 = c2 .before .before .before .before in
+    as-text (then (c3 .put-start .ensures)
+    (then (c2 .put-count .ensures) (then (c1 .led-count .ensures)
     (c .before .before .put-byte .ensures)))) (in-brackets _)
 
 pub put-declined-spec : {M : Type 1} → statement M

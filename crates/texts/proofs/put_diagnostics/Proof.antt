@@ -1,7 +1,7 @@
 -- `texts::put_diagnostics` meets its contract. Assumes nothing.
 use borrow.Author.Needs.{needs}
-use Rattle.texts.specs.Writing.{then, as-text, same-room}
-use Rattle.texts.specs.Laws.{diagnostics-parts}
+use Rattle.texts.proofs.Writing.{then, as-text, same-room}
+use Rattle.texts.proofs.Laws.{diagnostics-parts}
 use Rattle.texts.proofs.put_diagnostics.Statement.{statement}
 use Rattle.texts.proofs.put_diagnostics.Tie as tie
 

@@ -1,6 +1,6 @@
 -- `texts::put_double` meets its contract. Assumes nothing.
 use borrow.Author.Needs.{needs}
-use Rattle.texts.specs.Writing.{as-text}
+use Rattle.texts.proofs.Writing.{as-text}
 use Rattle.texts.proofs.put_double.Statement.{statement}
 use Rattle.texts.proofs.put_double.Tie as tie
 

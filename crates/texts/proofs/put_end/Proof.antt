@@ -1,7 +1,7 @@
 -- `texts::put_end` meets its contract. Assumes nothing.
 use borrow.Author.Needs.{needs}
-use Rattle.texts.specs.Writing.{then, as-text, same-room}
-use Rattle.texts.specs.Laws.{led-end}
+use Rattle.texts.proofs.Writing.{then, as-text, same-room}
+use Rattle.texts.proofs.Laws.{led-end}
 use Rattle.texts.specs.Pieces.{endText}
 use Rattle.texts.proofs.put_end.Statement.{statement}
 use Rattle.texts.proofs.put_end.Tie as tie
@@ -16,11 +16,17 @@ put-byte-requires-2 : tie.Need-put-byte-requires-2
 put-byte-requires-2 c κs = search needs
 
 same-length : tie.Need-same-length
-same-length c = same-room (then (c .before .before .before .before .before .before .before .before .before .before .put-byte .ensures) (then (c .before .before .before .before .before .before .put-warnings .ensures) (c .before .before .put-byte2 .ensures)))
+same-length c =
+    let c1 = c .before .before .before .before .before .before in
+    let c2 = c1 .before .before .before .before in
+    same-room (then (c2 .put-byte .ensures) (then (c1 .put-warnings .ensures) (c .before .before .put-byte2 .ensures)))
 
 returns : tie.Need-returns
 unfolding endText
-returns c = as-text (then (c .before .before .before .before .before .before .before .before .before .before .put-byte .ensures) (then (c .before .before .before .before .before .before .put-warnings .ensures) (c .before .before .put-byte2 .ensures))) (led-end _ _)
+returns c =
+    let c1 = c .before .before .before .before .before .before in
+    let c2 = c1 .before .before .before .before in
+    as-text (then (c2 .put-byte .ensures) (then (c1 .put-warnings .ensures) (c .before .before .put-byte2 .ensures))) (led-end _ _)
 
 pub put-end-spec : {M : Type 1} → statement M
 put-end-spec =

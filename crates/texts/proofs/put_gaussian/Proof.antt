@@ -1,7 +1,7 @@
 -- `texts::put_gaussian` meets its contract. Assumes nothing.
 use borrow.Author.Needs.{needs}
-use Rattle.texts.specs.Writing.{then, as-text, same-room}
-use Rattle.texts.specs.Laws.{in-brackets}
+use Rattle.texts.proofs.Writing.{then, as-text, same-room}
+use Rattle.texts.proofs.Laws.{in-brackets}
 use Rattle.texts.specs.Texts.{gaussianText}
 use Rattle.texts.proofs.put_gaussian.Statement.{statement}
 use Rattle.texts.proofs.put_gaussian.Tie as tie
@@ -28,11 +28,32 @@ put-byte-requires-2 : tie.Need-put-byte-requires-2
 put-byte-requires-2 c κs = search needs
 
 same-length : tie.Need-same-length
-same-length c = same-room (then (c .before .before .before .before .before .before .before .before .before .before .before .before .before .before .before .before .before .before .before .before .before .before .before .before .before .before .put-byte .ensures) (then (c .before .before .before .before .before .before .before .before .before .before .before .before .before .before .before .before .before .before .before .before .before .before .put-double .ensures) (then (c .before .before .before .before .before .before .before .before .before .before .before .before .before .before .before .before .before .before .led-double .ensures) (then (c .before .before .before .before .before .before .before .before .before .before .before .before .before .before .led-double2 .ensures) (then (c .before .before .before .before .before .before .before .before .before .before .led-double3 .ensures) (then (c .before .before .before .before .before .before .led-double4 .ensures) (c .before .before .put-byte2 .ensures)))))))
+same-length c =
+    let c1 = c .before .before .before .before .before .before in
+    let c2 = c1 .before .before .before .before in
+    let c3 = c2 .before .before .before .before in
+    let c4 = c3 .before .before .before .before in
+    let c5 = c4 .before .before .before .before in
+    let c6 = c5 .before .before .before .before in
+    same-room (then (c6 .put-byte .ensures)
+    (then (c5 .put-double .ensures)
+    (then (c4 .led-double .ensures)
+    (then (c3 .led-double2 .ensures) (then (c2 .led-double3 .ensures) (then (c1 .led-double4 .ensures) (c .before .before .put-byte2 .ensures)))))))
 
 returns : tie.Need-returns
 unfolding gaussianText
-returns c = as-text (then (c .before .before .before .before .before .before .before .before .before .before .before .before .before .before .before .before .before .before .before .before .before .before .before .before .before .before .put-byte .ensures) (then (c .before .before .before .before .before .before .before .before .before .before .before .before .before .before .before .before .before .before .before .before .before .before .put-double .ensures) (then (c .before .before .before .before .before .before .before .before .before .before .before .before .before .before .before .before .before .before .led-double .ensures) (then (c .before .before .before .before .before .before .before .before .before .before .before .before .before .before .led-double2 .ensures) (then (c .before .before .before .before .before .before .before .before .before .before .led-double3 .ensures) (then (c .before .before .before .before .before .before .led-double4 .ensures) (c .before .before .put-byte2 .ensures))))))) (in-brackets _)
+returns c =
+    let c1 = c .before .before .before .before .before .before in
+    let c2 = c1 .before .before .before .before in
+    let c3 = c2 .before .before .before .before in
+    let c4 = c3 .before .before .before .before in
+    let c5 = c4 .before .before .before .before in
+    let c6 = c5 .before .before .before .before in
+    as-text (then (c6 .put-byte .ensures)
+    (then (c5 .put-double .ensures)
+    (then (c4 .led-double .ensures)
+    (then (c3 .led-double2 .ensures) (then (c2 .led-double3 .ensures) (then (c1 .led-double4 .ensures) (c .before .before .put-byte2 .ensures)))))))
+    (in-brackets _)
 
 pub put-gaussian-spec : {M : Type 1} → statement M
 put-gaussian-spec =

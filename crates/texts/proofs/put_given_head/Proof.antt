@@ -1,7 +1,7 @@
 -- `texts::put_given_head` meets its contract. Assumes nothing.
 use borrow.Author.Needs.{needs}
-use Rattle.texts.specs.Writing.{then, as-text, same-room}
-use Rattle.texts.specs.Laws.{after}
+use Rattle.texts.proofs.Writing.{then, as-text, same-room}
+use Rattle.texts.proofs.Laws.{after}
 use Rattle.words.specs.Words.{bytes}
 use Rattle.texts.specs.Pieces.{givenHead}
 use Rattle.texts.proofs.put_given_head.Statement.{statement}
@@ -27,17 +27,25 @@ put-byte-requires c κs = search needs
 
 same-length : tie.Need-same-length
 same-length c =
-    same-room (then (c .before .before .before .before .before .before .before .before .before .before .before .before .before .before .before .before .before .before .put-bytes .ensures)
-    (then (c .before .before .before .before .before .before .before .before .before .before .before .before .before .before .put-double .ensures)
-    (then (c .before .before .before .before .before .before .before .before .before .before .led-double .ensures) (then (c .before .before .before .before .before .before .led-double2 .ensures)
+    let c1 = c .before .before .before .before .before .before in
+    let c2 = c1 .before .before .before .before in
+    let c3 = c2 .before .before .before .before in
+    let c4 = c3 .before .before .before .before in
+    same-room (then (c4 .put-bytes .ensures)
+    (then (c3 .put-double .ensures)
+    (then (c2 .led-double .ensures) (then (c1 .led-double2 .ensures)
     (c .before .before .put-byte .ensures)))))
 
 returns : tie.Need-returns
 unfolding givenHead
 returns c =
-    as-text (then (c .before .before .before .before .before .before .before .before .before .before .before .before .before .before .before .before .before .before .put-bytes .ensures)
-    (then (c .before .before .before .before .before .before .before .before .before .before .before .before .before .before .put-double .ensures)
-    (then (c .before .before .before .before .before .before .before .before .before .before .led-double .ensures) (then (c .before .before .before .before .before .before .led-double2 .ensures)
+    let c1 = c .before .before .before .before .before .before in
+    let c2 = c1 .before .before .before .before in
+    let c3 = c2 .before .before .before .before in
+    let c4 = c3 .before .before .before .before in
+    as-text (then (c4 .put-bytes .ensures)
+    (then (c3 .put-double .ensures)
+    (then (c2 .led-double .ensures) (then (c1 .led-double2 .ensures)
     (c .before .before .put-byte .ensures))))) (after (bytes " (") _ _)
 
 pub put-given-head-spec : {M : Type 1} → statement M

@@ -3,8 +3,9 @@ use borrow.Author.Needs.{needs}
 use mathlib.Core.Path.{ap}
 use mathlib.Core.List.{_++_}
 use Rattle.words.specs.Words.{bytes, wordAt}
-use Rattle.texts.specs.Writing.{Text, then, as-text, same-room}
-use Rattle.texts.specs.Laws.{after}
+use Rattle.texts.specs.Writing.{Text}
+use Rattle.texts.proofs.Writing.{then, as-text, same-room}
+use Rattle.texts.proofs.Laws.{after}
 use Rattle.texts.specs.Pieces.{headText}
 use Rattle.texts.proofs.put_head.Statement.{statement}
 use Rattle.texts.proofs.put_head.Tie as tie
@@ -44,27 +45,43 @@ put-byte-requires-2 c κs = search needs
 
 same-length : tie.Need-same-length
 same-length c =
-    same-room (then (c .before .before .before .before .before .before .before .before .before .before .before .before .before .before .before .before .before .before .before .before .before .before .before .before .before .before .before .before .before .before .before .before .before .before .before .before .put-start .ensures)
-    (then (c .before .before .before .before .before .before .before .before .before .before .before .before .before .before .before .before .before .before .before .before .before .before .before .before .before .before .before .before .before .before .before .put-count .ensures)
-    (then (c .before .before .before .before .before .before .before .before .before .before .before .before .before .before .before .before .before .before .before .before .before .before .before .before .before .before .before .led-double .ensures)
-    (then (c .before .before .before .before .before .before .before .before .before .before .before .before .before .before .before .before .before .before .before .before .before .before .before .led-double2 .ensures)
-    (then (c .before .before .before .before .before .before .before .before .before .before .before .before .before .before .before .before .before .before .before .led-count .ensures)
-    (then (as-text (c .before .before .before .before .before .before .before .before .before .before .before .before .before .before .led-word .ensures)
-    (ap (λ (t : Text). bytes " " ++ t) (c .before .before .before .before .before .before .before .before .before .before .before .before .before .before .before .truth-word .ensures)))
-    (then (c .before .before .before .before .before .before .before .before .before .before .put-byte .ensures) (then (c .before .before .before .before .before .before .put-priors .ensures)
+    let c1 = c .before .before .before .before .before .before in
+    let c2 = c1 .before .before .before .before in
+    let c3 = c2 .before .before .before .before in
+    let c4 = c3 .before .before .before .before .before in
+    let c5 = c4 .before .before .before .before in
+    let c6 = c5 .before .before .before .before in
+    let c7 = c6 .before .before .before .before in
+    let c8 = c7 .before .before .before .before .before in
+    same-room (then (c8 .put-start .ensures)
+    (then (c7 .put-count .ensures)
+    (then (c6 .led-double .ensures)
+    (then (c5 .led-double2 .ensures)
+    (then (c4 .led-count .ensures)
+    (then (as-text (c3 .led-word .ensures)
+    (ap (λ (t : Text). bytes " " ++ t) (c3 .before .truth-word .ensures)))
+    (then (c2 .put-byte .ensures) (then (c1 .put-priors .ensures)
     (c .before .before .put-byte2 .ensures)))))))))
 
 returns : tie.Need-returns
 unfolding headText wordAt
 returns c =
-    as-text (then (c .before .before .before .before .before .before .before .before .before .before .before .before .before .before .before .before .before .before .before .before .before .before .before .before .before .before .before .before .before .before .before .before .before .before .before .before .put-start .ensures)
-    (then (c .before .before .before .before .before .before .before .before .before .before .before .before .before .before .before .before .before .before .before .before .before .before .before .before .before .before .before .before .before .before .before .put-count .ensures)
-    (then (c .before .before .before .before .before .before .before .before .before .before .before .before .before .before .before .before .before .before .before .before .before .before .before .before .before .before .before .led-double .ensures)
-    (then (c .before .before .before .before .before .before .before .before .before .before .before .before .before .before .before .before .before .before .before .before .before .before .before .led-double2 .ensures)
-    (then (c .before .before .before .before .before .before .before .before .before .before .before .before .before .before .before .before .before .before .before .led-count .ensures)
-    (then (as-text (c .before .before .before .before .before .before .before .before .before .before .before .before .before .before .led-word .ensures)
-    (ap (λ (t : Text). bytes " " ++ t) (c .before .before .before .before .before .before .before .before .before .before .before .before .before .before .before .truth-word .ensures)))
-    (then (c .before .before .before .before .before .before .before .before .before .before .put-byte .ensures) (then (c .before .before .before .before .before .before .put-priors .ensures)
+    let c1 = c .before .before .before .before .before .before in
+    let c2 = c1 .before .before .before .before in
+    let c3 = c2 .before .before .before .before in
+    let c4 = c3 .before .before .before .before .before in
+    let c5 = c4 .before .before .before .before in
+    let c6 = c5 .before .before .before .before in
+    let c7 = c6 .before .before .before .before in
+    let c8 = c7 .before .before .before .before .before in
+    as-text (then (c8 .put-start .ensures)
+    (then (c7 .put-count .ensures)
+    (then (c6 .led-double .ensures)
+    (then (c5 .led-double2 .ensures)
+    (then (c4 .led-count .ensures)
+    (then (as-text (c3 .led-word .ensures)
+    (ap (λ (t : Text). bytes " " ++ t) (c3 .before .truth-word .ensures)))
+    (then (c2 .put-byte .ensures) (then (c1 .put-priors .ensures)
     (c .before .before .put-byte2 .ensures))))))))) (after (bytes "(") _ _)
 
 pub put-head-spec : {M : Type 1} → statement M

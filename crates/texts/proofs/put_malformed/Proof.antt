@@ -1,8 +1,8 @@
 -- `texts::put_malformed` meets its contract. Assumes nothing.
 use borrow.Author.Needs.{needs}
 use Rattle.words.specs.Words.{wordAt}
-use Rattle.texts.specs.Writing.{then, as-text, same-room}
-use Rattle.texts.specs.Laws.{in-brackets}
+use Rattle.texts.proofs.Writing.{then, as-text, same-room}
+use Rattle.texts.proofs.Laws.{in-brackets}
 use Rattle.texts.specs.Texts.{malformedText}
 use Rattle.texts.proofs.put_malformed.Statement.{statement}
 use Rattle.texts.proofs.put_malformed.Tie as tie
@@ -17,11 +17,17 @@ put-byte-requires : tie.Need-put-byte-requires
 put-byte-requires c κs = search needs
 
 same-length : tie.Need-same-length
-same-length c = same-room (then (c .before .before .before .before .before .before .before .before .before .before .put-start .ensures) (then (c .before .before .before .before .before .before .put-count .ensures) (c .before .before .put-byte .ensures)))
+same-length c =
+    let c1 = c .before .before .before .before .before .before in
+    let c2 = c1 .before .before .before .before in
+    same-room (then (c2 .put-start .ensures) (then (c1 .put-count .ensures) (c .before .before .put-byte .ensures)))
 
 returns : tie.Need-returns
 unfolding malformedText wordAt
-returns c = as-text (then (c .before .before .before .before .before .before .before .before .before .before .put-start .ensures) (then (c .before .before .before .before .before .before .put-count .ensures) (c .before .before .put-byte .ensures))) (in-brackets _)
+returns c =
+    let c1 = c .before .before .before .before .before .before in
+    let c2 = c1 .before .before .before .before in
+    as-text (then (c2 .put-start .ensures) (then (c1 .put-count .ensures) (c .before .before .put-byte .ensures))) (in-brackets _)
 
 pub put-malformed-spec : {M : Type 1} → statement M
 put-malformed-spec =

@@ -1,6 +1,6 @@
 -- `texts::put_mark` meets its contract. Assumes nothing.
 use borrow.Author.Needs.{needs}
-use Rattle.texts.specs.Writing.{then, as-text, same-room}
+use Rattle.texts.proofs.Writing.{then, as-text, same-room}
 use Rattle.texts.specs.Pieces.{markText}
 use Rattle.texts.proofs.put_mark.Statement.{statement}
 use Rattle.texts.proofs.put_mark.Tie as tie
@@ -16,7 +16,9 @@ same-length c = same-room (then (c .before .before .before .before .before .befo
 
 returns : tie.Need-returns
 unfolding markText
-returns c = as-text (then (c .before .before .before .before .before .before .put-blank .ensures) (c .before .before .put-warning .ensures)) (simp (c .before .before .before .before .before .before .before .before .if1 .taken))
+returns c =
+    let c1 = c .before .before .before .before .before .before in
+    as-text (then (c1 .put-blank .ensures) (c .before .before .put-warning .ensures)) (simp (c1 .before .before .if1 .taken))
 
 slice-aggregate-put-bytes : tie.Need-slice-aggregate-put-bytes
 slice-aggregate-put-bytes c = search needs

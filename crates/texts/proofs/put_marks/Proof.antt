@@ -9,9 +9,10 @@ use native.Mathlib.Omega.{arith}
 use lib.ListN.{length, take, getD}
 use lib.Seq.{take-all, take-suc, length-take-le}
 use Rattle.words.specs.Words.{place}
-use Rattle.texts.specs.Writing.{Writes, nothing, then, as-text, same-room}
+use Rattle.texts.specs.Writing.{Writes}
+use Rattle.texts.proofs.Writing.{nothing, then, as-text, same-room}
 use Rattle.texts.specs.Pieces.{marksFrom, marksText}
-use Rattle.texts.specs.Laws.{anyOn, marks-more, any-more}
+use Rattle.texts.proofs.Laws.{anyOn, marks-more, any-more}
 use Rattle.texts.proofs.put_marks.Statement.{statement}
 use Rattle.texts.proofs.put_marks.Tie as tie
 
@@ -49,10 +50,12 @@ loop-again c =
     let on = c .before .before .before .before .before .before .before .before .args .t3 in
     let n : length on ≡ 10 = search needs in
     let m : length (take (l .i) on) ≡ l .i = length-take-le (l .i) on (omega arith) in
-    let e : take (l .i + 1) on ≡ take (l .i) on ++ (getD on (l .i) false ∷ []) = ap (λ (j : ℕ). take j on) (add-one (l .i)) ∙ take-suc on (l .i) false (omega arith) in (
+    let e : take (l .i + 1) on ≡ take (l .i) on ++ (getD on (l .i) false ∷ []) =
+    ap (λ (j : ℕ). take j on) (add-one (l .i)) ∙ take-suc on (l .i) false (omega arith) in (
       omega arith,
       rw (e, l .inv .1) (any-more (take (l .i) on) (getD on (l .i) false)),
-      as-text (then (l .inv .2) (c .before .before .put-mark .ensures)) (sym (rw (e, marks-more false _ (take (l .i) on) (getD on (l .i) false), m, l .inv .1))),
+      as-text (then (l .inv .2) (c .before .before .put-mark .ensures))
+          (sym (rw (e, marks-more false _ (take (l .i) on) (getD on (l .i) false), m, l .inv .1))),
     )
 
 same-length : tie.Need-same-length Inv-loop μ-loop

@@ -1,7 +1,7 @@
 -- `texts::put_middle` meets its contract. Assumes nothing.
 use borrow.Author.Needs.{needs}
-use Rattle.texts.specs.Writing.{then, as-text, same-room}
-use Rattle.texts.specs.Laws.{led-end}
+use Rattle.texts.proofs.Writing.{then, as-text, same-room}
+use Rattle.texts.proofs.Laws.{led-end}
 use Rattle.texts.specs.Pieces.{middleText}
 use Rattle.texts.proofs.put_middle.Statement.{statement}
 use Rattle.texts.proofs.put_middle.Tie as tie
@@ -22,11 +22,24 @@ put-byte-requires-3 : tie.Need-put-byte-requires-3
 put-byte-requires-3 c κs = search needs
 
 same-length : tie.Need-same-length
-same-length c = same-room (then (c .before .before .before .before .before .before .before .before .before .before .before .before .before .before .before .before .before .before .put-byte .ensures) (then (c .before .before .before .before .before .before .before .before .before .before .before .before .before .before .put-diagnostics .ensures) (then (c .before .before .before .before .before .before .before .before .before .before .put-byte2 .ensures) (then (c .before .before .before .before .before .before .put-approximation .ensures) (c .before .before .put-byte3 .ensures)))))
+same-length c =
+    let c1 = c .before .before .before .before .before .before in
+    let c2 = c1 .before .before .before .before in
+    let c3 = c2 .before .before .before .before in
+    let c4 = c3 .before .before .before .before in
+    same-room (then (c4 .put-byte .ensures)
+    (then (c3 .put-diagnostics .ensures) (then (c2 .put-byte2 .ensures) (then (c1 .put-approximation .ensures) (c .before .before .put-byte3 .ensures)))))
 
 returns : tie.Need-returns
 unfolding middleText
-returns c = as-text (then (c .before .before .before .before .before .before .before .before .before .before .before .before .before .before .before .before .before .before .put-byte .ensures) (then (c .before .before .before .before .before .before .before .before .before .before .before .before .before .before .put-diagnostics .ensures) (then (c .before .before .before .before .before .before .before .before .before .before .put-byte2 .ensures) (then (c .before .before .before .before .before .before .put-approximation .ensures) (c .before .before .put-byte3 .ensures))))) (led-end _ _)
+returns c =
+    let c1 = c .before .before .before .before .before .before in
+    let c2 = c1 .before .before .before .before in
+    let c3 = c2 .before .before .before .before in
+    let c4 = c3 .before .before .before .before in
+    as-text (then (c4 .put-byte .ensures)
+    (then (c3 .put-diagnostics .ensures) (then (c2 .put-byte2 .ensures) (then (c1 .put-approximation .ensures) (c .before .before .put-byte3 .ensures)))))
+    (led-end _ _)
 
 pub put-middle-spec : {M : Type 1} → statement M
 put-middle-spec =

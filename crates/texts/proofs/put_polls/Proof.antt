@@ -3,8 +3,9 @@ use borrow.Author.Needs.{needs}
 use mathlib.Core.Path.{ap}
 use mathlib.Core.List.{_++_}
 use Rattle.words.specs.Words.{bytes}
-use Rattle.texts.specs.Writing.{Text, then, as-text}
-use Rattle.texts.specs.Laws.{joined-end}
+use Rattle.texts.specs.Writing.{Text}
+use Rattle.texts.proofs.Writing.{then, as-text}
+use Rattle.texts.proofs.Laws.{joined-end}
 use Rattle.texts.specs.Pieces.{pollsText}
 use Rattle.texts.proofs.put_polls.Statement.{statement}
 use Rattle.texts.proofs.put_polls.Tie as tie
@@ -42,13 +43,20 @@ same-length c = search needs
 returns : tie.Need-returns
 unfolding pollsText
 returns c =
-    as-text (then (c .before .before .before .before .before .before .before .before .before .before .before .before .before .before .before .before .before .before .before .before .before .before .before .before .before .before .before .before .before .before .before .put-double .ensures)
-    (then (c .before .before .before .before .before .before .before .before .before .before .before .before .before .before .before .before .before .before .before .before .before .before .before .before .before .before .before .led-double .ensures)
-    (then (c .before .before .before .before .before .before .before .before .before .before .before .before .before .before .before .before .before .before .before .before .before .before .before .led-double2 .ensures)
-    (then (as-text (c .before .before .before .before .before .before .before .before .before .before .before .before .before .before .before .before .before .before .led-word .ensures)
-    (ap (λ (t : Text). bytes " " ++ t) (c .before .before .before .before .before .before .before .before .before .before .before .before .before .before .before .before .before .before .before .criterion-word .ensures)))
-    (then (c .before .before .before .before .before .before .before .before .before .before .before .before .before .before .led-number .ensures)
-    (then (c .before .before .before .before .before .before .before .before .before .before .led-number2 .ensures) (then (c .before .before .before .before .before .before .led-count .ensures)
+    let c1 = c .before .before .before .before .before .before in
+    let c2 = c1 .before .before .before .before in
+    let c3 = c2 .before .before .before .before in
+    let c4 = c3 .before .before .before .before in
+    let c5 = c4 .before .before .before .before .before in
+    let c6 = c5 .before .before .before .before in
+    let c7 = c6 .before .before .before .before in
+    as-text (then (c7 .put-double .ensures)
+    (then (c6 .led-double .ensures)
+    (then (c5 .led-double2 .ensures)
+    (then (as-text (c4 .led-word .ensures)
+    (ap (λ (t : Text). bytes " " ++ t) (c4 .before .criterion-word .ensures)))
+    (then (c3 .led-number .ensures)
+    (then (c2 .led-number2 .ensures) (then (c1 .led-count .ensures)
     (c .before .before .put-byte .ensures)))))))) (joined-end _ _)
 
 pub put-polls-spec : {M : Type 1} → statement M

@@ -1,8 +1,8 @@
 -- `texts::put_question` meets its contract. Assumes nothing.
 use borrow.Author.Needs.{needs}
 use Rattle.words.specs.Words.{wordAt}
-use Rattle.texts.specs.Writing.{then, as-text}
-use Rattle.texts.specs.Laws.{in-brackets}
+use Rattle.texts.proofs.Writing.{then, as-text}
+use Rattle.texts.proofs.Laws.{in-brackets}
 use Rattle.texts.specs.Texts.{questionText}
 use Rattle.texts.proofs.put_question.Statement.{statement}
 use Rattle.texts.proofs.put_question.Tie as tie
@@ -10,8 +10,8 @@ use Rattle.texts.proofs.put_question.Tie as tie
 put-start-requires : tie.Need-put-start-requires
 put-start-requires c κs = search needs
 
-kind-word-requires : tie.Need-kind-word-requires
-kind-word-requires c κs = search needs
+list-word-requires : tie.Need-list-word-requires
+list-word-requires c κs = search needs
 
 put-word-requires : tie.Need-put-word-requires
 put-word-requires c κs = search needs
@@ -31,10 +31,14 @@ same-length c = search needs
 returns : tie.Need-returns
 unfolding questionText wordAt
 returns c =
-    as-text (then (c .before .before .before .before .before .before .before .before .before .before .before .before .before .before .before .before .before .before .before .put-start .ensures)
-    (then (as-text (c .before .before .before .before .before .before .before .before .before .before .before .before .before .before .put-word .ensures)
-    (c .before .before .before .before .before .before .before .before .before .before .before .before .before .before .before .kind-word .ensures))
-    (then (c .before .before .before .before .before .before .before .before .before .before .led-double .ensures) (then (c .before .before .before .before .before .before .led-double2 .ensures)
+    let c1 = c .before .before .before .before .before .before in
+    let c2 = c1 .before .before .before .before in
+    let c3 = c2 .before .before .before .before in
+    let c4 = c3 .before .before .before .before .before in
+    as-text (then (c4 .put-start .ensures)
+    (then (as-text (c3 .put-word .ensures)
+    (c3 .before .list-word .ensures))
+    (then (c2 .led-double .ensures) (then (c1 .led-double2 .ensures)
     (c .before .before .put-byte .ensures))))) (in-brackets _)
 
 pub put-question-spec : {M : Type 1} → statement M
@@ -42,7 +46,7 @@ put-question-spec =
     tie.close
     (tie.spec
     put-start-requires
-    kind-word-requires
+    list-word-requires
     put-word-requires
     led-double-requires
     led-double-requires-2

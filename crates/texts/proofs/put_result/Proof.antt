@@ -1,6 +1,6 @@
 -- `texts::put_result` meets its contract. Assumes nothing.
-use Rattle.texts.specs.Writing.{then, as-text, same-room}
-use Rattle.texts.specs.Laws.{in-brackets}
+use Rattle.texts.proofs.Writing.{then, as-text, same-room}
+use Rattle.texts.proofs.Laws.{in-brackets}
 use Rattle.texts.specs.Texts.{resultText}
 use Rattle.texts.proofs.put_result.Statement.{statement}
 use Rattle.texts.proofs.put_result.Tie as tie
@@ -30,11 +30,36 @@ put-byte-requires-2 : tie.Need-put-byte-requires-2
 put-byte-requires-2 c κs = tt
 
 same-length : tie.Need-same-length
-same-length c = same-room (then (c .before .before .before .before .before .before .before .before .before .before .before .before .before .before .before .before .before .before .before .before .before .before .before .before .before .before .before .before .before .before .put-byte .ensures) (then (c .before .before .before .before .before .before .before .before .before .before .before .before .before .before .before .before .before .before .before .before .before .before .before .before .before .before .put-double .ensures) (then (c .before .before .before .before .before .before .before .before .before .before .before .before .before .before .before .before .before .before .before .before .before .before .led-double .ensures) (then (c .before .before .before .before .before .before .before .before .before .before .before .before .before .before .before .before .before .before .led-double2 .ensures) (then (c .before .before .before .before .before .before .before .before .before .before .before .before .before .before .led-double3 .ensures) (then (c .before .before .before .before .before .before .before .before .before .before .led-double4 .ensures) (then (c .before .before .before .before .before .before .led-double5 .ensures) (c .before .before .put-byte2 .ensures))))))))
+same-length c =
+    let c1 = c .before .before .before .before .before .before in
+    let c2 = c1 .before .before .before .before in
+    let c3 = c2 .before .before .before .before in
+    let c4 = c3 .before .before .before .before in
+    let c5 = c4 .before .before .before .before in
+    let c6 = c5 .before .before .before .before in
+    let c7 = c6 .before .before .before .before in
+    same-room (then (c7 .put-byte .ensures)
+    (then (c6 .put-double .ensures)
+    (then (c5 .led-double .ensures)
+    (then (c4 .led-double2 .ensures)
+    (then (c3 .led-double3 .ensures) (then (c2 .led-double4 .ensures) (then (c1 .led-double5 .ensures) (c .before .before .put-byte2 .ensures))))))))
 
 returns : tie.Need-returns
 unfolding resultText
-returns c = as-text (then (c .before .before .before .before .before .before .before .before .before .before .before .before .before .before .before .before .before .before .before .before .before .before .before .before .before .before .before .before .before .before .put-byte .ensures) (then (c .before .before .before .before .before .before .before .before .before .before .before .before .before .before .before .before .before .before .before .before .before .before .before .before .before .before .put-double .ensures) (then (c .before .before .before .before .before .before .before .before .before .before .before .before .before .before .before .before .before .before .before .before .before .before .led-double .ensures) (then (c .before .before .before .before .before .before .before .before .before .before .before .before .before .before .before .before .before .before .led-double2 .ensures) (then (c .before .before .before .before .before .before .before .before .before .before .before .before .before .before .led-double3 .ensures) (then (c .before .before .before .before .before .before .before .before .before .before .led-double4 .ensures) (then (c .before .before .before .before .before .before .led-double5 .ensures) (c .before .before .put-byte2 .ensures)))))))) (in-brackets _)
+returns c =
+    let c1 = c .before .before .before .before .before .before in
+    let c2 = c1 .before .before .before .before in
+    let c3 = c2 .before .before .before .before in
+    let c4 = c3 .before .before .before .before in
+    let c5 = c4 .before .before .before .before in
+    let c6 = c5 .before .before .before .before in
+    let c7 = c6 .before .before .before .before in
+    as-text (then (c7 .put-byte .ensures)
+    (then (c6 .put-double .ensures)
+    (then (c5 .led-double .ensures)
+    (then (c4 .led-double2 .ensures)
+    (then (c3 .led-double3 .ensures) (then (c2 .led-double4 .ensures) (then (c1 .led-double5 .ensures) (c .before .before .put-byte2 .ensures))))))))
+    (in-brackets _)
 
 pub put-result-spec : {M : Type 1} → statement M
 put-result-spec =

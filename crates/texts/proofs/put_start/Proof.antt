@@ -1,6 +1,6 @@
 -- `texts::put_start` meets its contract. Assumes nothing.
 use borrow.Author.Needs.{needs}
-use Rattle.texts.specs.Writing.{then}
+use Rattle.texts.proofs.Writing.{then}
 use Rattle.texts.proofs.put_start.Statement.{statement}
 use Rattle.texts.proofs.put_start.Tie as tie
 
@@ -17,7 +17,10 @@ same-length : tie.Need-same-length
 same-length c = search needs
 
 returns : tie.Need-returns
-returns c = then (c .before .before .before .before .before .before .before .before .before .before .put-byte .ensures) (then (c .before .before .before .before .before .before .put-word .ensures) (c .before .before .put-byte2 .ensures))
+returns c =
+    let c1 = c .before .before .before .before .before .before in
+    let c2 = c1 .before .before .before .before in
+    then (c2 .put-byte .ensures) (then (c1 .put-word .ensures) (c .before .before .put-byte2 .ensures))
 
 pub put-start-spec : {M : Type 1} → statement M
 put-start-spec =

@@ -1,7 +1,7 @@
 -- `texts::put_sums` meets its contract. Assumes nothing.
 use borrow.Author.Needs.{needs}
-use Rattle.texts.specs.Writing.{then, as-text, same-room}
-use Rattle.texts.specs.Laws.{after}
+use Rattle.texts.proofs.Writing.{then, as-text, same-room}
+use Rattle.texts.proofs.Laws.{after}
 use Rattle.words.specs.Words.{bytes}
 use Rattle.texts.specs.Pieces.{sumsText}
 use Rattle.texts.proofs.put_sums.Statement.{statement}
@@ -33,23 +33,37 @@ put-byte-requires-2 c κs = search needs
 
 same-length : tie.Need-same-length
 same-length c =
-    same-room (then (c .before .before .before .before .before .before .before .before .before .before .before .before .before .before .before .before .before .before .before .before .before .before .before .before .before .before .before .before .before .before .put-byte .ensures)
-    (then (c .before .before .before .before .before .before .before .before .before .before .before .before .before .before .before .before .before .before .before .before .before .before .before .before .before .before .put-double .ensures)
-    (then (c .before .before .before .before .before .before .before .before .before .before .before .before .before .before .before .before .before .before .before .before .before .before .led-double .ensures)
-    (then (c .before .before .before .before .before .before .before .before .before .before .before .before .before .before .before .before .before .before .led-double2 .ensures)
-    (then (c .before .before .before .before .before .before .before .before .before .before .before .before .before .before .led-number .ensures)
-    (then (c .before .before .before .before .before .before .before .before .before .before .led-number2 .ensures) (then (c .before .before .before .before .before .before .led-number3 .ensures)
+    let c1 = c .before .before .before .before .before .before in
+    let c2 = c1 .before .before .before .before in
+    let c3 = c2 .before .before .before .before in
+    let c4 = c3 .before .before .before .before in
+    let c5 = c4 .before .before .before .before in
+    let c6 = c5 .before .before .before .before in
+    let c7 = c6 .before .before .before .before in
+    same-room (then (c7 .put-byte .ensures)
+    (then (c6 .put-double .ensures)
+    (then (c5 .led-double .ensures)
+    (then (c4 .led-double2 .ensures)
+    (then (c3 .led-number .ensures)
+    (then (c2 .led-number2 .ensures) (then (c1 .led-number3 .ensures)
     (c .before .before .put-byte2 .ensures))))))))
 
 returns : tie.Need-returns
 unfolding sumsText
 returns c =
-    as-text (then (c .before .before .before .before .before .before .before .before .before .before .before .before .before .before .before .before .before .before .before .before .before .before .before .before .before .before .before .before .before .before .put-byte .ensures)
-    (then (c .before .before .before .before .before .before .before .before .before .before .before .before .before .before .before .before .before .before .before .before .before .before .before .before .before .before .put-double .ensures)
-    (then (c .before .before .before .before .before .before .before .before .before .before .before .before .before .before .before .before .before .before .before .before .before .before .led-double .ensures)
-    (then (c .before .before .before .before .before .before .before .before .before .before .before .before .before .before .before .before .before .before .led-double2 .ensures)
-    (then (c .before .before .before .before .before .before .before .before .before .before .before .before .before .before .led-number .ensures)
-    (then (c .before .before .before .before .before .before .before .before .before .before .led-number2 .ensures) (then (c .before .before .before .before .before .before .led-number3 .ensures)
+    let c1 = c .before .before .before .before .before .before in
+    let c2 = c1 .before .before .before .before in
+    let c3 = c2 .before .before .before .before in
+    let c4 = c3 .before .before .before .before in
+    let c5 = c4 .before .before .before .before in
+    let c6 = c5 .before .before .before .before in
+    let c7 = c6 .before .before .before .before in
+    as-text (then (c7 .put-byte .ensures)
+    (then (c6 .put-double .ensures)
+    (then (c5 .led-double .ensures)
+    (then (c4 .led-double2 .ensures)
+    (then (c3 .led-number .ensures)
+    (then (c2 .led-number2 .ensures) (then (c1 .led-number3 .ensures)
     (c .before .before .put-byte2 .ensures)))))))) (after (bytes "(") _ _)
 
 pub put-sums-spec : {M : Type 1} → statement M

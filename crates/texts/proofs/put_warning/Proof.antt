@@ -1,7 +1,7 @@
 -- `texts::put_warning` meets its contract. Assumes nothing.
 use borrow.Author.Needs.{needs}
-use Rattle.texts.specs.Writing.{then, as-text, same-room}
-use Rattle.texts.specs.Laws.{in-brackets}
+use Rattle.texts.proofs.Writing.{then, as-text, same-room}
+use Rattle.texts.proofs.Laws.{in-brackets}
 use Rattle.texts.proofs.put_warning.Statement.{statement}
 use Rattle.texts.proofs.put_warning.Tie as tie
 
@@ -15,10 +15,16 @@ put-byte-requires-2 : tie.Need-put-byte-requires-2
 put-byte-requires-2 c κs = search needs
 
 same-length : tie.Need-same-length
-same-length c = same-room (then (c .before .before .before .before .before .before .before .before .before .before .put-byte .ensures) (then (c .before .before .before .before .before .before .put-word .ensures) (c .before .before .put-byte2 .ensures)))
+same-length c =
+    let c1 = c .before .before .before .before .before .before in
+    let c2 = c1 .before .before .before .before in
+    same-room (then (c2 .put-byte .ensures) (then (c1 .put-word .ensures) (c .before .before .put-byte2 .ensures)))
 
 returns : tie.Need-returns
-returns c = as-text (then (c .before .before .before .before .before .before .before .before .before .before .put-byte .ensures) (then (c .before .before .before .before .before .before .put-word .ensures) (c .before .before .put-byte2 .ensures))) (in-brackets _)
+returns c =
+    let c1 = c .before .before .before .before .before .before in
+    let c2 = c1 .before .before .before .before in
+    as-text (then (c2 .put-byte .ensures) (then (c1 .put-word .ensures) (c .before .before .put-byte2 .ensures))) (in-brackets _)
 
 pub put-warning-spec : {M : Type 1} → statement M
 put-warning-spec =

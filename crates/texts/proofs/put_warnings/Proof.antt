@@ -1,9 +1,9 @@
 -- `texts::put_warnings` meets its contract. Assumes nothing.
 use mathlib.Core.Path.{ap}
 use borrow.Author.Needs.{needs}
-use Rattle.texts.specs.Writing.{then, as-text}
+use Rattle.texts.proofs.Writing.{then, as-text}
 use Rattle.texts.specs.Pieces.{marksText}
-use Rattle.texts.specs.Laws.{warnings-parts}
+use Rattle.texts.proofs.Laws.{warnings-parts}
 use Rattle.texts.proofs.put_warnings.Statement.{statement}
 use Rattle.texts.proofs.put_warnings.Tie as tie
 
@@ -24,8 +24,11 @@ same-length c = search needs
 
 returns : tie.Need-returns
 returns c =
+    let c1 = c .before .before .before .before .before .before in
+    let c2 = c1 .before .before .before .before in
     as-text
-    (then (c .before .before .before .before .before .before .before .before .before .before .put-byte .ensures) (then (as-text (c .before .before .before .before .before .before .put-marks .ensures) (ap marksText (c .before .before .before .before .before .before .before .before .before .before .before .before .marks .ensures))) (c .before .before .put-byte2 .ensures)))
+    (then (c2 .put-byte .ensures)
+    (then (as-text (c1 .put-marks .ensures) (ap marksText (c2 .before .before .marks .ensures))) (c .before .before .put-byte2 .ensures)))
     (warnings-parts _)
 
 pub put-warnings-spec : {M : Type 1} → statement M

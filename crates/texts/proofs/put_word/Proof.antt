@@ -1,7 +1,7 @@
 -- `texts::put_word` meets its contract. The word stands at the start of the 32 bytes. Assumes nothing.
 use borrow.Author.Needs.{needs}
 use Rattle.words.specs.Words.{wordAt}
-use Rattle.texts.specs.Writing.{as-text}
+use Rattle.texts.proofs.Writing.{as-text}
 use Rattle.texts.proofs.Starts.{text-fits, text-length, text-there}
 use Rattle.texts.proofs.put_word.Statement.{statement}
 use Rattle.texts.proofs.put_word.Tie as tie

@@ -26,7 +26,7 @@ use Rattle.definition.specs.declared.TruingApproximationFailureCodeV1.the-varia
 use Rattle.definition.specs.declared.TruingUncertaintyWarningCodeV1.{TruingUncertaintyWarningCodeV1}
 use Rattle.definition.specs.declared.TruingUncertaintyWarningCodeV1.the-variants as Warning
 use Rattle.warnings.specs.Warnings.{codes, warningsBy}
-use Rattle.warnings.specs.Laws.{warnings-by}
+use Rattle.warnings.proofs.Laws.{warnings-by}
 use Rattle.report.specs.Report.{Results}
 use Rattle.forms.specs.Numbers.{glyphOf, digitsOf, placesOf, doubleText, countText}
 use Rattle.words.specs.Words.{bytes}
@@ -58,14 +58,14 @@ use Rattle.texts.specs.Texts.{
   warningText,
   warningsText,
   reportText,
-  kindName,
+  listName,
   questionText,
   declinedText,
   askedText,
   malformedText,
 }
-use Rattle.texts.specs.declared.Kind.{Kind}
-use Rattle.texts.specs.declared.Kind.the-variants as Kind
+use Rattle.definition.specs.declared.Distances.{Distances}
+use Rattle.definition.specs.declared.Distances.the-variants as Distances
 
 -- ---- numbers
 
@@ -119,7 +119,15 @@ number-length (some x) = omega (arith, double-length x)
 gaussian-length : (g : GaussianIntervalV1) → length (gaussianText g) ≤ 87
 unfolding gaussianText
 gaussian-length g =
-    short _ (omega (arith, double-length (g .estimate), double-length (g .«standard_deviation»), double-length (g .lower), double-length (g .upper), double-length (g .probability)))
+    short _
+    (omega (
+      arith,
+      double-length (g .estimate),
+      double-length (g .«standard_deviation»),
+      double-length (g .lower),
+      double-length (g .upper),
+      double-length (g .probability),
+    ))
 
 interval-length : (i : Option GaussianIntervalV1) → length (intervalText i) ≤ 87
 interval-length none = omega arith
@@ -137,7 +145,16 @@ priors-length p = short _ (omega (arith, prior-length (p .«muzzle_velocity_fps�
 pub result-length : (o : WeightedTruingObservationResultV1) → length (resultText o) ≤ 104
 unfolding resultText
 result-length o =
-    short _ (omega (arith, double-length (o .«range_yd»), double-length (o .«observed_drop»), double-length (o .sigma), double-length (o .«predicted_drop»), double-length (o .residual), double-length (o .«standardized_residual»)))
+    short _
+    (omega (
+      arith,
+      double-length (o .«range_yd»),
+      double-length (o .«observed_drop»),
+      double-length (o .sigma),
+      double-length (o .«predicted_drop»),
+      double-length (o .residual),
+      double-length (o .«standardized_residual»),
+    ))
 
 results-length : (results : Results) → length results ≤ 64 → length (resultsText results) ≤ 6722
 unfolding resultsText
@@ -147,7 +164,14 @@ baseline-length : (b : Option Baseline) → ((x : Baseline) → b ≡ some x →
 unfolding baselineText
 baseline-length none h = omega arith
 baseline-length (some b) h =
-    short _ (omega (arith, double-length (b .entered .mv), double-length (b .entered .bc), double-length (b .chiSquare), results-length (b .observations) (h b refl)))
+    short _
+    (omega (
+      arith,
+      double-length (b .entered .mv),
+      double-length (b .entered .bc),
+      double-length (b .chiSquare),
+      results-length (b .observations) (h b refl),
+    ))
 
 criterion-length : (c : Option TruingMapConvergenceCriterionV1) → length (orNone criterionName c) ≤ 14
 criterion-length none = omega arith
@@ -182,7 +206,8 @@ failure-length Failure.NonFiniteInformation = omega arith
 
 covariance-length : (c : TruingCovarianceV1) → length (covarianceText c) ≤ 53
 unfolding covarianceText
-covariance-length c = short _ (omega (arith, double-length (c .«mv_variance_fps2»), double-length (c .«mv_bc_covariance_fps»), double-length (c .«bc_variance»)))
+covariance-length c =
+    short _ (omega (arith, double-length (c .«mv_variance_fps2»), double-length (c .«mv_bc_covariance_fps»), double-length (c .«bc_variance»)))
 
 approximation-length : (a : Approximation) → length (approximationText a) ≤ 276
 unfolding approximationText availableText
@@ -253,7 +278,8 @@ codes-length a b c d e f g h i j =
       warn-length a Warning.OptimizerDidNotConverge l1,
     )
 
-pub warnings-most : (m : Measured) (f : Fit) (e : Evaluation) (a : Approximation) (d : Diagnostics) (requested : List Requested) → length (warningsOf m f e a d requested) ≤ 10
+pub warnings-most : (m : Measured) (f : Fit) (e : Evaluation) (a : Approximation) (d : Diagnostics) (requested : List Requested)
+    → length (warningsOf m f e a d requested) ≤ 10
 unfolding warningsBy
 warnings-most m f e a d requested = rw warnings-by (codes-length _ _ _ _ _ _ _ _ _ _)
 
@@ -293,14 +319,14 @@ report-length p h =
       warnings-length (p .warnings) (h .warnings),
     ))
 
-kind-length : (kind : Kind) → length (kindName kind) ≤ 9
-kind-length Kind.Shots = omega arith
-kind-length Kind.Distances = omega arith
-kind-length Kind.New = omega arith
+list-length : (list : Distances) → length (listName list) ≤ 9
+list-length Distances.Shots = omega arith
+list-length Distances.Requested = omega arith
+list-length Distances.New = omega arith
 
-pub question-length : (kind : Kind) (mv bc : Float) → length (questionText kind mv bc) ≤ 55
+pub question-length : (list : Distances) (mv bc : Float) → length (questionText list mv bc) ≤ 55
 unfolding questionText
-question-length kind mv bc = short _ (omega (arith, kind-length kind, double-length mv, double-length bc))
+question-length list mv bc = short _ (omega (arith, list-length list, double-length mv, double-length bc))
 
 pub declined-length : (n position : ℕ) → length (declinedText n position) ≤ 53
 unfolding declinedText

@@ -1,7 +1,7 @@
 -- The lists of the report that stands, place by place, and how their texts grow.
-use Prim.Native.Nat.{ℕ, zero, suc, _+_, _≤_, _<_}
-use mathlib.Core.Path.{_≡_, refl, sym, ap, _∙_, subst}
-use mathlib.Core.Bool.{Bool, true, false}
+use Prim.Native.Nat.{ℕ, zero, suc, _+_, _≤_}
+use mathlib.Core.Path.{_≡_, refl, sym, ap, _∙_}
+use mathlib.Core.Bool.{true, false}
 use mathlib.Core.List.{List, [], _∷_, _++_, map}
 use mathlib.Core.Option.{Option, none, some}
 use native.Mathlib.Numerals.{add-one}
@@ -9,19 +9,19 @@ use native.Mathlib.Omega.{arith}
 use lib.ListN.{length, take}
 use lib.Seq.{take-all}
 use Rattle.definition.specs.Summary.{Band, Report}
-use Rattle.definition.specs.declared.WeightedTruingObservationResultV1.{WeightedTruingObservationResultV1}
 use Rattle.report.specs.Places.{nth}
-use Rattle.report.specs.Report.{Results, seenOf, baselineSays}
+use Rattle.report.specs.Report.{Results, seenOf}
 use Rattle.report.specs.declared.UncertaintyTruingReportV1.{UncertaintyTruingReportV1}
-use Rattle.session.specs.Reading.{reportIn, placeIn, ofBaseline, baselineResults, HeadOf, Shows}
-use Rattle.session.specs.declared.Shown.{Shown}
-use Rattle.session.specs.declared.Shown.the-variants as Shown
+use Rattle.report.specs.Reading.{placeIn, ofBaseline, baselineResults, HeadOf, Shows}
+use Rattle.report.specs.Reading.{reportIn}
+use Rattle.report.specs.declared.Shown.{Shown}
+use Rattle.report.specs.declared.Shown.the-variants as Shown
 use Rattle.editing.specs.Meaning.{state}
 use Rattle.editing.specs.declared.Session.{Session}
 use Rattle.texts.specs.Writing.{Text, Writes}
-use Rattle.texts.specs.Texts.{joined, bracketed, resultText, resultsText, bandText, bandsText, reportText}
+use Rattle.texts.specs.Texts.{joined, resultsText, bandsText, reportText}
 use Rattle.texts.specs.Pieces.{before, headText, baselineHead, baselineList, baselineEnd, middleText, endText}
-use Rattle.texts.specs.Laws.{one-more, report-parts}
+use Rattle.texts.proofs.Laws.{one-more, report-parts}
 use Rattle.answers.specs.Answers.{listIn, resultsIn, bandsIn, standingText}
 
 pub place-list : {A : Type 0} (f : Report → List A) (i : ℕ) (p : Option Report) → placeIn f i p ≡ nth i (listIn f p)
@@ -82,7 +82,9 @@ module _ (s : Session) (h : UncertaintyTruingReportV1) (p : Report) (e : reportI
 
   -- the parts as they are written are the report's text
   pub whole-text :
-      headText h ++ (resultsText (take (h .observations) (resultsIn false s)) ++ (baselineHead (h .baseline) ++ (baselineList (h .baseline) (take (h .observations) (resultsIn true s))
+      headText h
+      ++ (resultsText (take (h .observations) (resultsIn false s))
+      ++ (baselineHead (h .baseline) ++ (baselineList (h .baseline) (take (h .observations) (resultsIn true s))
       ++ (baselineEnd (h .baseline) ++ (middleText h ++ (bandsText (take (h .«predictive_bands») (bandsIn s)) ++ endText h))))))
       ≡ reportText p
   whole-text =

@@ -1,8 +1,8 @@
--- `texts::kind_word` meets its contract: the words computed. Assumes nothing.
+-- `texts::list_word` meets its contract: the words computed. Assumes nothing.
 use borrow.Author.Needs.{needs}
 use Rattle.words.specs.Words.{wordAt}
-use Rattle.texts.proofs.kind_word.Statement.{statement}
-use Rattle.texts.proofs.kind_word.Tie as tie
+use Rattle.texts.proofs.list_word.Statement.{statement}
+use Rattle.texts.proofs.list_word.Tie as tie
 
 enum-told : tie.Need-enum-told
 enum-told c = search needs
@@ -25,5 +25,5 @@ returns-3 : tie.Need-returns-3
 unfolding wordAt
 returns-3 c = rw (c .enum-told3 .given .1)
 
-pub kind-word-spec : {M : Type 1} → statement M
-kind-word-spec = tie.close (tie.spec enum-told enum-told-2 enum-told-3 returns returns-2 returns-3)
+pub list-word-spec : {M : Type 1} → statement M
+list-word-spec = tie.close (tie.spec enum-told enum-told-2 enum-told-3 returns returns-2 returns-3)

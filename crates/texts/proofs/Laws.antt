@@ -16,8 +16,10 @@ use Rattle.report.specs.declared.UncertaintyTruingReportV1.{UncertaintyTruingRe
 use Rattle.report.specs.Report.{Results, seenOf, baselineSays}
 use Rattle.words.specs.Words.{bytes, wordAt}
 use Rattle.texts.specs.Writing.{Text}
-use Rattle.texts.specs.Texts.{led, joined, bracketed, resultsText, baselineText, diagnosticsText, bandsText, warningName, warningText, warningsText, reportText}
-use Rattle.texts.specs.Pieces.{before, headText, givenHead, baselineHead, baselineList, baselineEnd, middleText, endText, sumsText, pollsText, markText, marksOf, marksFrom, marksText}
+use Rattle.texts.specs.Texts.{led, joined, bracketed, resultsText, baselineText, diagnosticsText, bandsText, warningName, warningText, warningsText}
+use Rattle.texts.specs.Texts.{reportText}
+use Rattle.texts.specs.Pieces.{before, headText, givenHead, baselineHead, baselineList, baselineEnd, middleText, endText, sumsText, pollsText}
+use Rattle.texts.specs.Pieces.{markText, marksOf, marksFrom, marksText}
 
 -- ---- fields
 
@@ -150,26 +152,33 @@ warnings-parts w = ap (λ (s : Text). bytes "(" ++ (s ++ bytes ")")) (sym (marks
 
 -- ---- the report
 
-baseline-parts : (b : Baseline) (entered : Results) → baselineHead b ++ (baselineList b entered ++ baselineEnd b) ≡ bytes " " ++ baselineText (baselineSays b entered)
+baseline-parts :
+    (b : Baseline) (entered : Results) → baselineHead b ++ (baselineList b entered ++ baselineEnd b) ≡ bytes " " ++ baselineText (baselineSays b entered)
 unfolding baselineHead givenHead baselineList baselineEnd baselineText
 baseline-parts Absent entered = refl
 baseline-parts (Given b) entered = ap (λ (s : Text). bytes " " ++ s) (in-two _ (_ ∷ _ ∷ []) _)
 
 report-fields : (f : Text) (fs : List Text) (results baseline diagnostics approximation bands warnings : Text)
-    → (bytes "(" ++ joined (f ∷ fs) ++ bytes " ") ++ (results ++ ((bytes " " ++ baseline) ++ ((led (diagnostics ∷ approximation ∷ []) ++ bytes " ") ++ (bands ++ (led (warnings ∷ []) ++ bytes ")")))))
+    → (bytes "(" ++ joined (f ∷ fs) ++ bytes " ")
+    ++ (results ++ ((bytes " " ++ baseline) ++ ((led (diagnostics ∷ approximation ∷ []) ++ bytes " ") ++ (bands ++ (led (warnings ∷ []) ++ bytes ")")))))
     ≡ bracketed ((f ∷ fs) ++ (results ∷ baseline ∷ diagnostics ∷ approximation ∷ bands ∷ warnings ∷ []))
 report-fields f fs results baseline diagnostics approximation bands warnings =
-    rw (sym (two-parts f fs results (baseline ∷ diagnostics ∷ approximation ∷ bands ∷ warnings ∷ []))) (simp (joined-cons, led-cons, led-nil, append-assoc, append-nil))
+    rw (sym (two-parts f fs results (baseline ∷ diagnostics ∷ approximation ∷ bands ∷ warnings ∷ [])))
+    (simp (joined-cons, led-cons, led-nil, append-assoc, append-nil))
 
 regroup : (h r a b c d t : Text) → a ++ (b ++ c) ≡ d → h ++ (r ++ (a ++ (b ++ (c ++ t)))) ≡ h ++ (r ++ (d ++ t))
-regroup h r a b c d t e = ap (λ (s : Text). h ++ (r ++ s)) (sym (ap (λ (s : Text). a ++ s) (append-assoc b c t)) ∙ sym (append-assoc a (b ++ c) t) ∙ ap (λ (s : Text). s ++ t) e)
+regroup h r a b c d t e =
+    ap (λ (s : Text). h ++ (r ++ s)) (sym (ap (λ (s : Text). a ++ s) (append-assoc b c t)) ∙ sym (append-assoc a (b ++ c) t) ∙ ap (λ (s : Text). s ++ t) e)
 
 -- the parts, with the lists between them, are the report
 pub report-parts : (r : UncertaintyTruingReportV1) (results entered : Results) (bands : List Band)
-    → headText r ++ (resultsText results ++ (baselineHead (r .baseline) ++ (baselineList (r .baseline) entered ++ (baselineEnd (r .baseline) ++ (middleText r ++ (bandsText bands ++ endText r))))))
+    → headText r
+    ++ (resultsText results
+    ++ (baselineHead (r .baseline) ++ (baselineList (r .baseline) entered ++ (baselineEnd (r .baseline) ++ (middleText r ++ (bandsText bands ++ endText r))))))
     ≡ reportText (seenOf r results entered bands)
 unfolding headText middleText endText reportText
 report-parts r results entered bands =
-    regroup (headText r) (resultsText results) (baselineHead (r .baseline)) (baselineList (r .baseline) entered) (baselineEnd (r .baseline)) _ (middleText r ++ (bandsText bands ++ endText r))
+    regroup (headText r) (resultsText results) (baselineHead (r .baseline)) (baselineList (r .baseline) entered) (baselineEnd (r .baseline)) _
+    (middleText r ++ (bandsText bands ++ endText r))
     (baseline-parts (r .baseline) entered)
     ∙ report-fields _ (_ ∷ _ ∷ _ ∷ _ ∷ _ ∷ _ ∷ []) (resultsText results) _ _ _ (bandsText bands) _
