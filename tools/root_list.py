@@ -7,6 +7,12 @@ entries of the table in crates/root/proofs/Figures.antt instead.
 """
 import math, random, struct, sys
 
+if sys.argv[1:] in (['-h'], ['--help']):
+    print(__doc__)
+    sys.exit()
+if sys.argv[1:] not in ([], ['--figures']):
+    sys.exit(f'{sys.argv[0]}: no such argument; --help says what it takes')
+
 NAN, INFINITY, SIGN, FIELD = 0x7FF8000000000000, 0x7FF0000000000000, 1 << 63, 1 << 52
 
 
