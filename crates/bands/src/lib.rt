@@ -1,4 +1,6 @@
 // The predictive band at one requested distance: the interval of the predicted drop, and that of a future observation.
+use coordinates::BC_COORDINATE_SCALE;
+use coordinates::MV_COORDINATE_SCALE_FPS;
 use definition::Number;
 use definition::Row;
 use definition::TruingApproximationV1;
@@ -10,11 +12,6 @@ ghost use Rattle.interval.specs.Interval.{says};
 ghost use Rattle.definition.specs.Summary.{bandVarianceOf, latentOf, futureOf, latentWith, bandOf};
 ghost use Rattle.definition.specs.Meaning.{numberOf, approximationSays, requestedOf};
 ghost use Rattle.bands.specs.Bands.{bandSays};
-
-// The scales of the two coordinates: 100 fps and 0.1.
-const MV_COORDINATE_SCALE_FPS: f64 = 100.0;
-
-const BC_COORDINATE_SCALE: f64 = 0.1;
 
 // A negative variance counts as 0 down to this part of its larger part, or of 1.
 const VARIANCE_TOLERANCE: f64 = 1.0e-12;

@@ -22,9 +22,9 @@ use Rattle.editing.specs.declared.Session.{Session}
 use Rattle.demands.specs.Calls.{Call, reply, resume, Editing, At, restBy, rest, Taking, declines, takes, takingReply, stance, taken, unlessDeclined, after}
 use Rattle.demands.specs.Calls.{due, dueTo}
 use Rattle.demands.specs.Standing.{IsNew, News}
-use Rattle.forms.specs.Lines.{Entry, Form}
-use Rattle.forms.specs.Lines as form
-use Rattle.forms.specs.Reading.{short}
+use Rattle.lines.specs.Lines.{Entry, Form}
+use Rattle.lines.specs.Lines as form
+use Rattle.lines.specs.Reading.{short}
 use Rattle.requests.specs.Kept.{kept}
 use Rattle.requests.proofs.Openings.{many-shots, many-distances}
 use Rattle.conversation.specs.Conversation.{Conversation, dropOf, isMissing, replyOf, says, calls, answerTo}

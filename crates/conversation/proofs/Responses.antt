@@ -26,17 +26,17 @@ use Rattle.editing.specs.declared.Session.{Session}
 use Rattle.editing.specs.declared.Answer.{Answer as Given}
 use Rattle.demands.specs.Calls.{Call, reply, first, finishedAt, reportBy, after, dueTo}
 use Rattle.demands.specs.Demands.{Meets, count}
-use Rattle.forms.specs.Lines.{Entry, missing, given, Form}
-use Rattle.forms.specs.Reading.{entryAt, zipEntries, entriesIn, formIn, formSays}
-use Rattle.forms.specs.declared.Line.{Line}
-use Rattle.forms.specs.declared.ReadForm.{ReadForm}
-use Rattle.texts.proofs.Writing as writing
-use Rattle.texts.specs.Writing.{Text, Writes}
-use Rattle.texts.proofs.Lengths.{asked-length, malformed-length}
-use Rattle.texts.specs.Texts.{askedText, malformedText}
-use Rattle.answers.specs.Answers as answers
-use Rattle.answers.specs.Answers.{saidText, line}
-use Rattle.answers.proofs.Fits.{answer-fits}
+use Rattle.lines.specs.Lines.{Entry, missing, given, Form}
+use Rattle.lines.specs.Reading.{entryAt, zipEntries, entriesIn, formIn, formSays}
+use Rattle.lines.specs.declared.Line.{Line}
+use Rattle.lines.specs.declared.ReadForm.{ReadForm}
+use Rattle.report_text.proofs.Writing as writing
+use Rattle.report_text.specs.Writing.{Text, Writes}
+use Rattle.report_text.proofs.Lengths.{asked-length, malformed-length}
+use Rattle.report_text.specs.Texts.{askedText, malformedText}
+use Rattle.answer_text.specs.Answers as answers
+use Rattle.answer_text.specs.Answers.{saidText, line}
+use Rattle.answer_text.proofs.Fits.{answer-fits}
 use Rattle.conversation.specs.Conversation.{Conversation, Answer, malformedAt, Answered, answerText, malformedLine, collected, inPlace, opens, calls}
 use Rattle.conversation.specs.Conversation.{dropOf, isMissing, replyOf, nextLine, answerTo}
 use Rattle.requests.specs.Kept.{kept, openingIn, Keeps}

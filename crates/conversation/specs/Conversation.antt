@@ -12,10 +12,10 @@ use Rattle.definition.specs.Whole.{whole}
 use Rattle.definition.specs.Session.{head, moreOf}
 use Rattle.definition.specs.declared.Step.{Step}
 use Rattle.demands.specs.Calls.{Call, reply, refusePoint, change, At, first, finishedAt, reportBy, after, dueTo}
-use Rattle.forms.specs.Lines.{Entry, missing, given, Form, malformed, entered, shot, priorSpeed, priorCoefficient, distance, openPlain, drops, refused, putIn, takeOut, exchange, asked}
-use Rattle.texts.specs.Writing.{Text}
-use Rattle.texts.specs.Texts.{askedText, malformedText}
-use Rattle.answers.specs.Answers.{saidText, line}
+use Rattle.lines.specs.Lines.{Entry, missing, given, Form, malformed, entered, shot, priorSpeed, priorCoefficient, distance, openPlain, drops, refused, putIn, takeOut, exchange, asked}
+use Rattle.report_text.specs.Writing.{Text}
+use Rattle.report_text.specs.Texts.{askedText, malformedText}
+use Rattle.answer_text.specs.Answers.{saidText, line}
 use Rattle.requests.specs.Request.{emptyRequest, withShot, withSpeed, withCoefficient, withDistance, normal, requestedAt}
 use Rattle.conversation.specs.declared.Section.{Section}
 use Rattle.conversation.specs.declared.Section.the-variants.{Closed, Shots, Priors, Distances}

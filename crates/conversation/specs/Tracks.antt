@@ -12,9 +12,9 @@ use Rattle.editing.specs.Meaning.{state}
 use Rattle.editing.specs.declared.Session.{Session}
 use Rattle.demands.specs.Calls.{At, first}
 use Rattle.demands.specs.Standing.{Inv}
-use Rattle.texts.specs.Writing.{Text}
-use Rattle.texts.specs.Texts.{askedText, malformedText}
-use Rattle.answers.specs.Answers.{saidText, line}
+use Rattle.report_text.specs.Writing.{Text}
+use Rattle.report_text.specs.Texts.{askedText, malformedText}
+use Rattle.answer_text.specs.Answers.{saidText, line}
 use Rattle.conversation.specs.Conversation.{Conversation, Answer, nothing, malformedAt, count, says, Answered, nextLine, answerTo, textOf, unendedText}
 use Rattle.requests.specs.Kept.{kept, Keeps}
 use Rattle.conversation.specs.declared.Conversation.{Conversation as Held}
@@ -22,8 +22,8 @@ use Rattle.conversation.specs.declared.Response.{Response}
 use Rattle.conversation.specs.declared.Response.the-variants as response
 use Rattle.conversation.specs.declared.Responded.{Responded}
 use Rattle.conversation.specs.declared.Replied.{Replied}
-use Rattle.forms.specs.Reading.{formIn}
-use Rattle.forms.specs.declared.Line.{Line}
+use Rattle.lines.specs.Reading.{formIn}
+use Rattle.lines.specs.declared.Line.{Line}
 
 -- ---- the session
 

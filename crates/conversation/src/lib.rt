@@ -3,9 +3,9 @@ use definition::Point;
 use definition::Step;
 use editing::Answer;
 use editing::Session;
-use forms::Line;
-use forms::ReadForm;
-use forms::Sigma;
+use lines::Line;
+use lines::ReadForm;
+use lines::Sigma;
 use requests::Request;
 ghost use Rattle.definition.specs.Request.{Opening};
 ghost use Rattle.definition.specs.Whole as edits;
@@ -15,11 +15,11 @@ ghost use Rattle.editing.specs.Meaning.{state, seen};
 ghost use Rattle.definition.specs.Session.{Edited};
 ghost use Rattle.demands.specs.Calls.{Call};
 ghost use Rattle.demands.specs.Demands.{Meets};
-ghost use Rattle.forms.specs.Lines.{entered, shot, priorSpeed, priorCoefficient, distance, openPlain, drops, refused, putIn, takeOut, exchange, asked};
-ghost use Rattle.forms.specs.Reading.{sigmaSays, entriesIn, formIn};
-ghost use Rattle.texts.specs.Writing.{Writes};
-ghost use Rattle.texts.specs.Texts.{askedText, malformedText};
-ghost use Rattle.answers.specs.Answers.{saidText, line};
+ghost use Rattle.lines.specs.Lines.{entered, shot, priorSpeed, priorCoefficient, distance, openPlain, drops, refused, putIn, takeOut, exchange, asked};
+ghost use Rattle.lines.specs.Reading.{sigmaSays, entriesIn, formIn};
+ghost use Rattle.report_text.specs.Writing.{Writes};
+ghost use Rattle.report_text.specs.Texts.{askedText, malformedText};
+ghost use Rattle.answer_text.specs.Answers.{saidText, line};
 ghost use Rattle.requests.specs.Request.{requestedAt};
 ghost use Rattle.requests.specs.Kept.{Keeps};
 ghost use Rattle.conversation.specs.Conversation as defined;
@@ -226,8 +226,8 @@ fn take_drops(t: Conversation, l: Line) -> Responded
     let n = reply.n;
     let a = editing::reply(
         s,
-        likelihood::first_places(&reply.drops, n),
-        requests::first_flags(&reply.missing, n),
+        slices::first_places(&reply.drops, n),
+        slices::first_flags(&reply.missing, n),
     );
     after_call(t, a)
 }
@@ -297,7 +297,7 @@ fn take_asked(t: Conversation) -> Responded
 fn respond(t: Conversation, l: Line) -> Responded
     ensures { λ r. ⌜ ((u : defined.Conversation) → Tracks t u → Responds r (answerTo u (formIn l))) ⌝ }
 {
-    match forms::form(l) {
+    match lines::form(l) {
         ReadForm::Malformed => malformed(t),
         ReadForm::Entered(mv, bc) => take_entered(t, mv, bc),
         ReadForm::Shot(range, drop, sigma) => take_shot(t, range, drop, sigma),
@@ -348,29 +348,29 @@ pub fn start() -> Conversation
 fn put_step(out: &mut [u8], session: Session, step: Step) -> usize
     ensures { λ r. ⌜ Writes (now (out .entry)) 0 (now (out .exit)) r (line (saidText step (reportIn (state session)))) ⌝ }
 {
-    let at = answers::put_answer(out, 0, Answer { step, session });
-    texts::put_byte(out, at, 10)
+    let at = answer_text::put_answer(out, 0, Answer { step, session });
+    report_text::put_byte(out, at, 10)
 }
 
 fn put_count(out: &mut [u8], n: u64) -> usize
     ensures { λ r. ⌜ Writes (now (out .entry)) 0 (now (out .exit)) r (line (askedText n)) ⌝ }
 {
-    let at = texts::put_asked(out, 0, n);
-    texts::put_byte(out, at, 10)
+    let at = report_text::put_asked(out, 0, n);
+    report_text::put_byte(out, at, 10)
 }
 
 fn put_malformed(out: &mut [u8], n: u64) -> usize
     ensures { λ r. ⌜ Writes (now (out .entry)) 0 (now (out .exit)) r (line (malformedText n)) ⌝ }
 {
-    let at = texts::put_malformed(out, 0, n);
-    texts::put_byte(out, at, 10)
+    let at = report_text::put_malformed(out, 0, n);
+    report_text::put_byte(out, at, 10)
 }
 
 fn put_response(out: &mut [u8], session: Session, response: Response) -> usize
     ensures { λ r. ⌜ Writes (now (out .entry)) 0 (now (out .exit)) r (responseText session response) ⌝ }
 {
     match response {
-        Response::Nothing => texts::put_bytes(out, 0, b""),
+        Response::Nothing => report_text::put_bytes(out, 0, b""),
         Response::Malformed(n) => put_malformed(out, n),
         Response::Asked(n) => put_count(out, n),
         Response::Says(step) => put_step(out, session, step),

@@ -17,9 +17,9 @@ use Rattle.definition.specs.Laws.{Asks}
 use Rattle.definition.specs.declared.Point.{Point}
 use Rattle.definition.proofs.Questions.{asks-now, asks-next, asks-whole, asks-edit}
 use Rattle.definition.specs.Session.{entriesOf}
-use Rattle.fresh.specs.Solver.{Solver, replyAt, hostOf, withList, fresh, BandAlone}
-use Rattle.fresh.proofs.Edits.{edit-fresh, list-kept}
-use Rattle.fresh.proofs.Reports.{only-band}
+use Rattle.fresh_outcome.specs.Solver.{Solver, replyAt, hostOf, withList, fresh, BandAlone}
+use Rattle.fresh_outcome.proofs.Edits.{edit-fresh, list-kept}
+use Rattle.fresh_outcome.proofs.Reports.{only-band}
 use Rattle.definition.specs.Session.{head, listOf, sizesFor, wants, rightLength}
 use Rattle.definition.specs.declared.Step.{Step}
 use Rattle.definition.specs.declared.Step.the-variants as Step

@@ -21,7 +21,7 @@ use Rattle.definition.specs.Laws.{Asks, put}
 use Rattle.definition.specs.declared.Point.{Point}
 use Rattle.definition.proofs.Questions.{asks-now, asks-next, asks-edit, every-new, count, count-of-edit}
 use Rattle.fitting.proofs.Laws.{bind-assoc}
-use Rattle.fresh.specs.Solver.{Solver, hostOf, fresh}
+use Rattle.fresh_outcome.specs.Solver.{Solver, hostOf, fresh}
 use Rattle.definition.specs.Session.{entriesOf}
 use Rattle.definition.specs.Session.{State, asking, standing, over, head, moreOf, counted, Sizes, sizesFor, wants, rightLength, either}
 use Rattle.definition.specs.declared.Step.{Step}

@@ -7,7 +7,7 @@ use Rattle.numeric.specs.Numeric.{finite, absOf, maxOf}
 use Rattle.definition.specs.Fit.{gradientNormOf, flatOf, evaluated, iterate, fitMap}
 use Rattle.definition.specs.Likelihood.{chiSquareOf, withPriorOf, withPriorsOf, valued, objective, mvStepOf, bcStepOf, mvPlusAt, mvMinusAt, bcPlusAt, bcMinusAt, bcMinus, bcPlus, mvMinus, mvPlus, truingJacobianRows, complete, accumulateOf, sumsOf, withPriorGradientOf, finishedOf, evaluate}
 use Rattle.definition.specs.Whole.{withinOf, positiveOf, soundObservationOf, soundPriorOf, soundRequestedOf, checkedPoint, checkedCount, checkedMeasured, checkedRequested, bandRows, baseline, concluded, banded, fitted, run, whole, asked, edit}
-use Rattle.fresh.specs.Solver.{fresh}
+use Rattle.fresh_outcome.specs.Solver.{fresh}
 use Rattle.demands.specs.Example.{solver, opening, callOf, all, Example, ExampleMet}
 use Rattle.demands.proofs.Demands.{as-due}
 

@@ -14,7 +14,7 @@ use Rattle.definition.specs.Summary.{Finished, Report, reportOf, rangesOf}
 use Rattle.definition.specs.Whole.{Edit, putIn, takeOut, exchange, edited, placed, edit, whole}
 use Rattle.definition.specs.declared.Point.{Point}
 use Rattle.definition.specs.Session.{entriesOf}
-use Rattle.fresh.specs.Solver.{Solver, replyAt, distancesOf, hostOf, withList, fresh}
+use Rattle.fresh_outcome.specs.Solver.{Solver, replyAt, distancesOf, hostOf, withList, fresh}
 use Rattle.definition.specs.Session.{rightLength}
 use Rattle.definition.specs.declared.Step.{Step}
 use Rattle.definition.specs.declared.Step.the-variants as Step

@@ -13,7 +13,7 @@ use Rattle.definition.specs.Host.{questions}
 use Rattle.definition.specs.Summary.{Report, reportOf}
 use Rattle.definition.specs.Whole.{Edit, putIn, takeOut, exchange, whole, checkedMeasured, checkedRequested}
 use Rattle.definition.specs.Laws.{put}
-use Rattle.fresh.specs.Solver.{Solver, hostOf, fresh, BandAlone}
+use Rattle.fresh_outcome.specs.Solver.{Solver, hostOf, fresh, BandAlone}
 use Rattle.report.specs.Places.{resultSays, bandAtSays}
 use Rattle.report.specs.declared.ResultAt.{ResultAt}
 use Rattle.report.specs.declared.BandAt.{BandAt}

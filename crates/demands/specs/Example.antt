@@ -13,7 +13,7 @@ use Rattle.definition.specs.Whole.{whole, putIn, takeOut, exchange, edited}
 use Rattle.definition.specs.Figures.{number, requested}
 use Rattle.definition.specs.RunFigures.{byMv, byBc, allThree, entered}
 use Rattle.definition.specs.declared.Point.{Point}
-use Rattle.fresh.specs.Solver.{Solver, fresh}
+use Rattle.fresh_outcome.specs.Solver.{Solver, fresh}
 use Rattle.definition.specs.Session.{head}
 use Rattle.definition.specs.declared.Step.{Step}
 use Rattle.definition.specs.declared.Step.the-variants as Step

@@ -32,9 +32,6 @@ fn say_heading() {
 // So many questions are shown with their replies.
 const SHOWN: usize = 3;
 
-// No run puts more questions.
-const MOST_QUESTIONS: usize = 4546;
-
 // The solver's reply about the twelve shots.
 fn reply_shots(s: Session, p: Point, ranges: [f64; 12], shown: bool) -> Answer {
     let mut drops = [0.0; 12];
@@ -80,7 +77,7 @@ fn answered(
 fn conversation(opened: Answer, ranges: [f64; 12], distances: [f64; 3]) -> Answer {
     let mut a = opened;
     let mut put = 0usize;
-    while put < MOST_QUESTIONS {
+    while put < editing::MAX_QUESTIONS {
         let step = a.step;
         let Step::Question(mv, bc, list) = step else {
             break;

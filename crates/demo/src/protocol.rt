@@ -8,7 +8,7 @@ ghost use lib.ListN.{take};
 
 // A space and a double.
 fn led_double(x: f64) {
-    let digits = forms::write_double(x);
+    let digits = numerals::write_double(x);
     say::text(b" ");
     say::text(&digits);
 }
@@ -92,24 +92,14 @@ pub fn say_reply(drops: &[f64], missing: &[bool]) {
     say::text(b")\n");
 }
 
-// The first n, or all.
-fn first_bytes<'a>(s: &'a [u8], n: usize) -> &'a [u8]
-    ensures { λ r. ⌜ now r ≡ take n (now (s .entry)) ⌝ }
-{
-    if n < s.len() {
-        return &s[..n];
-    }
-    s
-}
-
 fn say_first(out: &[u8], end: usize) {
-    say::text(first_bytes(out, end));
+    say::text(slices::first_bytes(out, end));
 }
 
 // A question, the report or a refusal. The report has fewer bytes than there are here.
 pub fn say_answer(a: Answer) {
     let mut out = [0u8; 32768];
-    let at = answers::put_answer(&mut out, 0, a);
-    let end = texts::put_byte(&mut out, at, 10);
+    let at = answer_text::put_answer(&mut out, 0, a);
+    let end = report_text::put_byte(&mut out, at, 10);
     say_first(&out, end);
 }

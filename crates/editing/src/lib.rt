@@ -27,6 +27,9 @@ ghost use Rattle.session.specs.Meaning.{sizesOf};
 ghost use Rattle.session.specs.Changing.{fittedIn, fittedSays};
 ghost use Rattle.editing.specs.Meaning.{placeOf, puts, opens, state, seen, ofRun, closedWith, asksWith, askedAt, newly, openPoint, pointSays, rowFrom, nextLeft};
 
+// No run puts more questions (`limited` of demand 1): enough for a host that counts them.
+pub const MAX_QUESTIONS: usize = 4_546;
+
 // An edit with a question open: the change that it makes, how many of the five questions have been answered, and its row.
 pub struct OpenEdit {
     change: Change,

@@ -12,7 +12,7 @@ ghost use Rattle.fitting.specs.Meaning.{leftOf, Moves, AfterRows, Blank,
 ghost use Rattle.fitting.specs.declared.Stage.the-variants as StageOf;
 
 // How many iterations a fit has at the most, and how many damping trials each.
-const MAX_ITERATIONS: usize = 100;
+pub const MAX_ITERATIONS: usize = 100;
 
 const MAX_TRIALS: usize = 30;
 

@@ -17,7 +17,7 @@ use Rattle.definition.specs.declared.Row.{Row}
 use Rattle.definition.specs.Run.{missing, drop, isMissing, dropOr0}
 use Rattle.definition.specs.Meaning.{observationOf, observationsOf}
 use Rattle.definition.specs.Session.{entryOf, entriesOf}
-use Rattle.likelihood.specs.Arrays.{shortestOf, over}
+use Rattle.slices.specs.Slices.{shortestOf, laidOver}
 
 -- ---- two lists read together
 
@@ -79,7 +79,7 @@ module _ {A B S : Type 0} (f : A → B → S) where
   zip-take-left (x ∷ xs) (y ∷ ys) zero h = absurd (not-suc-le-zero h)
   zip-take-left (x ∷ xs) (y ∷ ys) (suc n) h = ap (λ (r : List S). f x y ∷ r) (zip-take-left xs ys n (le-of-suc-le-suc h))
 
-  pub zip-over : (xs zs : List A) (ys : List B) → length ys ≤ length xs → length xs ≤ length zs → zipWith f (over xs zs) ys ≡ zipWith f xs ys
+  pub zip-over : (xs zs : List A) (ys : List B) → length ys ≤ length xs → length xs ≤ length zs → zipWith f (laidOver xs zs) ys ≡ zipWith f xs ys
   zip-over [] [] ys g h = refl
   zip-over [] (z ∷ zs) [] g h = refl
   zip-over [] (z ∷ zs) (y ∷ ys) g h = absurd (not-suc-le-zero g)
@@ -139,47 +139,47 @@ module _ {A B C D : Type 0} (f : A → B → C → D) where
 -- ---- a list laid over another
 
 module _ {A : Type 0} where
-  pub over-length : (xs ys : List A) → length (over xs ys) ≡ length ys
+  pub over-length : (xs ys : List A) → length (laidOver xs ys) ≡ length ys
   over-length [] ys = refl
   over-length (x ∷ xs) [] = refl
   over-length (x ∷ xs) (y ∷ ys) = ap suc (over-length xs ys)
 
   -- its first places are the list that was laid there
-  pub over-take : (xs ys : List A) (n : ℕ) → length xs ≡ n → n ≤ length ys → take n (over xs ys) ≡ xs
+  pub over-take : (xs ys : List A) (n : ℕ) → length xs ≡ n → n ≤ length ys → take n (laidOver xs ys) ≡ xs
   over-take [] ys zero e h = refl
   over-take [] ys (suc n) e h = absurd (omega arith)
   over-take (x ∷ xs) ys zero e h = absurd (omega arith)
   over-take (x ∷ xs) [] (suc n) e h = absurd (not-suc-le-zero h)
   over-take (x ∷ xs) (y ∷ ys) (suc n) e h = ap (λ (r : List A). x ∷ r) (over-take xs ys n (omega arith) (le-of-suc-le-suc h))
 
-  pub over-at : (xs ys : List A) (i : ℕ) (d : A) → i < length xs → i < length ys → getD (over xs ys) i d ≡ getD xs i d
+  pub over-at : (xs ys : List A) (i : ℕ) (d : A) → i < length xs → i < length ys → getD (laidOver xs ys) i d ≡ getD xs i d
   over-at [] ys i d g h = absurd (not-suc-le-zero g)
   over-at (x ∷ xs) [] i d g h = absurd (not-suc-le-zero h)
   over-at (x ∷ xs) (y ∷ ys) zero d g h = refl
   over-at (x ∷ xs) (y ∷ ys) (suc i) d g h = over-at xs ys i d (le-of-suc-le-suc g) (le-of-suc-le-suc h)
 
   -- and the places past it are as they were
-  pub over-past : (xs ys : List A) (i : ℕ) (d : A) → length xs ≤ i → getD (over xs ys) i d ≡ getD ys i d
+  pub over-past : (xs ys : List A) (i : ℕ) (d : A) → length xs ≤ i → getD (laidOver xs ys) i d ≡ getD ys i d
   over-past [] ys i d h = refl
   over-past (x ∷ xs) [] i d h = refl
   over-past (x ∷ xs) (y ∷ ys) zero d h = absurd (not-suc-le-zero h)
   over-past (x ∷ xs) (y ∷ ys) (suc i) d h = over-past xs ys i d (le-of-suc-le-suc h)
 
   -- what is covered whole leaves nothing
-  pub over-over : (xs ys zs : List A) → length ys ≤ length xs → over xs (over ys zs) ≡ over xs zs
+  pub over-over : (xs ys zs : List A) → length ys ≤ length xs → laidOver xs (laidOver ys zs) ≡ laidOver xs zs
   over-over xs [] zs h = refl
   over-over [] (y ∷ ys) zs h = absurd (not-suc-le-zero h)
   over-over (x ∷ xs) (y ∷ ys) [] h = refl
   over-over (x ∷ xs) (y ∷ ys) (z ∷ zs) h = ap (λ (r : List A). x ∷ r) (over-over xs ys zs (le-of-suc-le-suc h))
 
   -- one place more
-  pub over-suc : (xs ys : List A) (i : ℕ) (d : A) → i < length xs → i < length ys → set (over (take i xs) ys) i (getD xs i d) ≡ over (take (suc i) xs) ys
+  pub over-suc : (xs ys : List A) (i : ℕ) (d : A) → i < length xs → i < length ys → set (laidOver (take i xs) ys) i (getD xs i d) ≡ laidOver (take (suc i) xs) ys
   over-suc [] ys i d g h = absurd (not-suc-le-zero g)
   over-suc (x ∷ xs) [] i d g h = absurd (not-suc-le-zero h)
   over-suc (x ∷ xs) (y ∷ ys) zero d g h = refl
   over-suc (x ∷ xs) (y ∷ ys) (suc i) d g h = ap (λ (r : List A). x ∷ r) (over-suc xs ys i d (le-of-suc-le-suc g) (le-of-suc-le-suc h))
 
-  pub over-all : (xs ys : List A) (i : ℕ) → min (length xs) (length ys) ≤ i → over (take i xs) ys ≡ over xs ys
+  pub over-all : (xs ys : List A) (i : ℕ) → min (length xs) (length ys) ≤ i → laidOver (take i xs) ys ≡ laidOver xs ys
   over-all [] ys i h = rw (take-nil {A = A} i)
   over-all (x ∷ xs) [] zero h = refl
   over-all (x ∷ xs) [] (suc i) h = refl
@@ -188,7 +188,7 @@ module _ {A : Type 0} where
 
 -- of an array that is zipped with a list of n, and the outcome laid over it: its first n places are the outcome
 pub over-zip : {A B : Type 0} (f : A → B → A) (xs : List A) (ys : List B) (n : ℕ) → length ys ≡ n → n ≤ length xs
-    → take n (over (zipWith f xs ys) xs) ≡ zipWith f (take n xs) ys
+    → take n (laidOver (zipWith f xs ys) xs) ≡ zipWith f (take n xs) ys
 over-zip f xs ys n e h =
     let l = zip-length f xs ys in
     over-take (zipWith f xs ys) xs n (omega arith) h ∙ sym (zip-take-left f xs ys n (omega arith))

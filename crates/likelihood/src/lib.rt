@@ -1,4 +1,6 @@
 // The objective, the rows of the five questions and the evaluation, over lent slices: each loop goes up to the end of the shortest.
+use coordinates::BC_COORDINATE_SCALE;
+use coordinates::MV_COORDINATE_SCALE_FPS;
 use definition::Evaluation;
 use definition::Point;
 use definition::Prior;
@@ -16,7 +18,7 @@ ghost use Rattle.definition.specs.Run.{isMissing, dropOr0};
 ghost use Rattle.definition.specs.Likelihood.{chiSquareOf, withPriorOf, withPriorsOf, mvStepOf, bcStepOf, mvPlusAt, mvMinusAt, bcPlusAt, bcMinusAt, slope, slopes, rowOf, accumulateOf, sumsOf, priorInformationOf, withPriorGradientOf, sensitivityRatioOf, finishedOf};
 ghost use Rattle.definition.specs.Meaning.{observationsOf};
 ghost use Rattle.definition.specs.Session.{entryOf, entriesOf};
-ghost use Rattle.likelihood.specs.Arrays.{shortestOf, over};
+ghost use Rattle.slices.specs.Slices.{shortestOf, laidOver};
 
 // The steps of the five questions: this part of the coordinate, and no less than these.
 const STEP_FRACTION: f64 = 1.0e-3;
@@ -25,44 +27,13 @@ const LEAST_MV_STEP: f64 = 0.5;
 
 const LEAST_BC_STEP: f64 = 1.0e-4;
 
-// The scales of the two coordinates.
-const MV_COORDINATE_SCALE_FPS: f64 = 100.0;
-
-const BC_COORDINATE_SCALE: f64 = 0.1;
-
-// The less of two lengths.
-pub fn shorter(a: usize, b: usize) -> usize
-    ensures { λ r. ⌜ r ≡ min a b ⌝ }
-{
-    if a < b {
-        return a;
-    }
-    b
-}
-
-pub fn shortest(a: usize, b: usize, c: usize) -> usize
-    ensures { λ r. ⌜ r ≡ shortestOf a b c ⌝ }
-{
-    shorter(a, shorter(b, c))
-}
-
-// The first n of a slice, or all of it: so much of an array is in use.
-pub fn first_places<'a>(s: &'a [f64], n: usize) -> &'a [f64]
-    ensures { λ r. ⌜ now r ≡ take n (now (s .entry)) ⌝ }
-{
-    if n < s.len() {
-        return &s[..n];
-    }
-    s
-}
-
 // ---- gaps
 
 // Whether an entry is missing. The loop does not end early, so that it is done for many flags at a time.
 fn any_gap(drops: &[f64], missing: &[bool]) -> bool
     ensures { λ r. ⌜ (r ≡ false → firstAt isMissing (entriesOf (now (drops .entry)) (now (missing .entry))) ≡ 0) ⌝ }
 {
-    let n = shorter(drops.len(), missing.len());
+    let n = slices::shorter(drops.len(), missing.len());
     let mut found = false;
     let mut i = 0usize;
     while i < n {
@@ -79,7 +50,7 @@ pub fn first_gap(drops: &[f64], missing: &[bool]) -> usize
     if !any_gap(drops, missing) {
         return 0;
     }
-    let n = shorter(drops.len(), missing.len());
+    let n = slices::shorter(drops.len(), missing.len());
     let mut i = 0usize;
     while i < n {
         if missing[i] {
@@ -117,8 +88,8 @@ pub fn chi_square<'a>(
 ) -> f64
     ensures { λ r. ⌜ r ≡ chiSquareOf (observationsOf (now (ranges .entry)) (now (drops .entry)) (now (sigmas .entry))) (now (predicted .entry)) ⌝ }
 {
-    let shots = shortest(ranges.len(), drops.len(), sigmas.len());
-    let n = shorter(shots, predicted.len());
+    let shots = slices::shortest(ranges.len(), drops.len(), sigmas.len());
+    let n = slices::shorter(shots, predicted.len());
     let mut sum = 0.0;
     let mut i = 0usize;
     while i < n {
@@ -234,9 +205,9 @@ fn slope_of(step: f64, plus: f64, minus: f64) -> f64
 
 // A reply's drops go over the first places of the slice.
 pub fn lay_drops(out: &mut [f64], drops: &[f64], missing: &[bool])
-    ensures { λ _. ⌜ now (out .exit) ≡ over (map dropOr0 (entriesOf (now (drops .entry)) (now (missing .entry)))) (now (out .entry)) ⌝ }
+    ensures { λ _. ⌜ now (out .exit) ≡ laidOver (map dropOr0 (entriesOf (now (drops .entry)) (now (missing .entry)))) (now (out .entry)) ⌝ }
 {
-    let n = shortest(out.len(), drops.len(), missing.len());
+    let n = slices::shortest(out.len(), drops.len(), missing.len());
     let mut i = 0usize;
     while i < n {
         out[i] = drop_or_0(drops[i], missing[i]);
@@ -246,9 +217,9 @@ pub fn lay_drops(out: &mut [f64], drops: &[f64], missing: &[bool])
 
 // The slice holds the drops at the plus point; with the reply at the minus point, the slopes go over its first places.
 pub fn lay_slopes(out: &mut [f64], step: f64, drops: &[f64], missing: &[bool])
-    ensures { λ _. ⌜ now (out .exit) ≡ over (slopes step (now (out .entry)) (map dropOr0 (entriesOf (now (drops .entry)) (now (missing .entry))))) (now (out .entry)) ⌝ }
+    ensures { λ _. ⌜ now (out .exit) ≡ laidOver (slopes step (now (out .entry)) (map dropOr0 (entriesOf (now (drops .entry)) (now (missing .entry))))) (now (out .entry)) ⌝ }
 {
-    let n = shortest(out.len(), drops.len(), missing.len());
+    let n = slices::shortest(out.len(), drops.len(), missing.len());
     let mut i = 0usize;
     while i < n {
         let plus = out[i];
@@ -292,9 +263,9 @@ fn sum_rows<'a>(
 ) -> Sums
     ensures { λ r. ⌜ r ≡ sumsOf p (observationsOf (now (ranges .entry)) (now (drops .entry)) (now (sigmas .entry))) (zipWith3 rowOf (now (predicted .entry)) (now («by_mv» .entry)) (now («by_bc» .entry))) ⌝ }
 {
-    let shots = shortest(ranges.len(), drops.len(), sigmas.len());
-    let rows = shortest(predicted.len(), by_mv.len(), by_bc.len());
-    let n = shorter(shots, rows);
+    let shots = slices::shortest(ranges.len(), drops.len(), sigmas.len());
+    let rows = slices::shortest(predicted.len(), by_mv.len(), by_bc.len());
+    let n = slices::shorter(shots, rows);
     let mut sums = Sums {
         a00: 0.0,
         a01: 0.0,

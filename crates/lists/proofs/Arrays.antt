@@ -16,7 +16,7 @@ use Rattle.definition.specs.Lists.{firstAt, zipWith}
 use Rattle.definition.specs.Request.{Requested}
 use Rattle.definition.specs.Meaning.{observationOf, observationsOf}
 use Rattle.definition.specs.Whole.{positiveOf, soundRequestedOf, faultyRequested}
-use Rattle.likelihood.specs.Arrays.{over, shortestOf}
+use Rattle.slices.specs.Slices.{laidOver, shortestOf}
 use Rattle.likelihood.proofs.Laws.{over-suc, over-all, zip-length, zip-take, zip3-take, zip3-shortest, zip3-within, cond-none}
 use Rattle.opening.specs.Opening.{futureOf, wantedAt, requestedFrom}
 use Rattle.report.specs.Places.{sigmaOf, requestedAt}
@@ -26,7 +26,7 @@ use Rattle.lists.specs.declared.Wanted.{Wanted}
 
 -- ---- the arrays
 
-over-prefix : {A : Type 0} (xs ys : List A) (n : ℕ) → n ≤ length xs → n ≤ length ys → take n (over xs ys) ≡ take n xs
+over-prefix : {A : Type 0} (xs ys : List A) (n : ℕ) → n ≤ length xs → n ≤ length ys → take n (laidOver xs ys) ≡ take n xs
 over-prefix [] [] zero g h = refl
 over-prefix [] (y ∷ ys) zero g h = refl
 over-prefix [] ys (suc n) g h = absurd (not-suc-le-zero g)
@@ -40,10 +40,10 @@ pub places-take : (xs : List Float) (n : ℕ) → n ≤ length xs → n ≤ 64 �
 places-take xs n g h = over-prefix xs (replicate 64 zero64) n g h
 
 pub places-suc : (xs : List Float) (i : ℕ) (x : Float) → i < length xs → i < 64 → x ≡ getD xs i nan
-    → set (over (take i xs) (replicate 64 zero64)) i x ≡ over (take (suc i) xs) (replicate 64 zero64)
-places-suc xs i x g h e = ap (λ (y : Float). set (over (take i xs) (replicate 64 zero64)) i y) e ∙ over-suc xs (replicate 64 zero64) i nan g h
+    → set (laidOver (take i xs) (replicate 64 zero64)) i x ≡ laidOver (take (suc i) xs) (replicate 64 zero64)
+places-suc xs i x g h e = ap (λ (y : Float). set (laidOver (take i xs) (replicate 64 zero64)) i y) e ∙ over-suc xs (replicate 64 zero64) i nan g h
 
-pub places-all : (xs : List Float) (i : ℕ) → min (length xs) 64 ≤ i → over (take i xs) (replicate 64 zero64) ≡ placesOf xs
+pub places-all : (xs : List Float) (i : ℕ) → min (length xs) 64 ≤ i → laidOver (take i xs) (replicate 64 zero64) ≡ placesOf xs
 places-all xs i h = over-all xs (replicate 64 zero64) i h
 
 -- ---- the measured part

@@ -12,8 +12,8 @@ use lib.ListN.{length, take, set, length-take}
 use lib.Seq.{take-set-lt}
 use Rattle.definition.specs.Lists.{insertAt, removeAt, zipWith}
 use Rattle.definition.specs.Whole.{Edit, putIn, takeOut, exchange, placed, edited, editedNumbers, editedRows}
-use Rattle.places.specs.Places.{insertedOf, removedOf}
-use Rattle.places.proofs.Laws.{inserted-places, removed-places}
+use Rattle.array_edits.specs.Places.{insertedOf, removedOf}
+use Rattle.array_edits.proofs.Laws.{inserted-places, removed-places}
 use Rattle.report.specs.Places.{requestedAt}
 use Rattle.definition.specs.declared.Row.{Row}
 use Rattle.stencil.specs.Stencil.{rowsAt}

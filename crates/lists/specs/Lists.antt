@@ -9,7 +9,7 @@ use Rattle.numeric.specs.Numeric.{zero64}
 use Rattle.definition.specs.Lists.{zipWith}
 use Rattle.definition.specs.Meaning.{observationsOf}
 use Rattle.definition.specs.Request.{Observation, Requested}
-use Rattle.likelihood.specs.Arrays.{over, shortestOf}
+use Rattle.slices.specs.Slices.{laidOver, shortestOf}
 use Rattle.report.specs.Places.{requestedAt}
 use Rattle.lists.specs.declared.Shots.{Shots}
 use Rattle.lists.specs.declared.Wanted.{Wanted}
@@ -31,7 +31,7 @@ pub record HasWanted (w : Wanted) (r : Bool) : Type 0 where
 
 -- a list in the first of 64 places; what lies past them is left out
 abbrev pub placesOf : List Float → List Float
-placesOf xs = over xs (replicate 64 zero64)
+placesOf xs = laidOver xs (replicate 64 zero64)
 
 -- 0 stands for a sigma that is not given
 abbrev pub sigmaOr0 : Float → Bool → Float

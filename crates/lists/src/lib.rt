@@ -77,7 +77,7 @@ fn sigmas_or_0(future: &[f64], given: &[bool]) -> [f64; 64]
 pub fn shots_of<'a>(ranges: &'a [f64], drops: &'a [f64], sigmas: &'a [f64]) -> Shots
     ensures { λ r. ⌜ r ≡ shotsFrom (now (ranges .entry)) (now (drops .entry)) (now (sigmas .entry)) ⌝ }
 {
-    let n = likelihood::shortest(ranges.len(), drops.len(), sigmas.len());
+    let n = slices::shortest(ranges.len(), drops.len(), sigmas.len());
     Shots {
         ranges: filled(ranges),
         drops: filled(drops),
@@ -90,7 +90,7 @@ pub fn shots_of<'a>(ranges: &'a [f64], drops: &'a [f64], sigmas: &'a [f64]) -> S
 pub fn wanted_of<'a>(distances: &'a [f64], future: &'a [f64], given: &'a [bool]) -> Wanted
     ensures { λ r. ⌜ r ≡ wantedFrom (now (distances .entry)) (now (future .entry)) (now (given .entry)) ⌝ }
 {
-    let n = likelihood::shortest(distances.len(), future.len(), given.len());
+    let n = slices::shortest(distances.len(), future.len(), given.len());
     Wanted {
         ranges: filled(distances),
         sigmas: sigmas_or_0(future, given),
@@ -190,9 +190,9 @@ fn changed_places(old: [f64; 64], n: usize, change: Change, x: f64) -> [f64; 64]
     ensures { λ r. ⌜ (n ≤ 64 → T (placed (editOf change) n) → T (roomy (editOf change) n) → take (sizeAfter (editOf change) n) r ≡ editedNumbers (editOf change) x (take n old)) ⌝ }
 {
     match change {
-        Change::PutIn(i, _range, _sigma) => places::inserted(old, n, index(i), x),
-        Change::TakeOut(i) => places::removed(old, n, index(i)),
-        Change::Exchange(i, _range, _sigma) => places::exchanged(old, index(i), x),
+        Change::PutIn(i, _range, _sigma) => array_edits::inserted(old, n, index(i), x),
+        Change::TakeOut(i) => array_edits::removed(old, n, index(i)),
+        Change::Exchange(i, _range, _sigma) => array_edits::exchanged(old, index(i), x),
     }
 }
 

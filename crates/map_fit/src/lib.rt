@@ -1,15 +1,12 @@
 // `fit_map` between its questions: the damped step, the damping, the gradient test, and which candidate is asked about next.
+use coordinates::BC_COORDINATE_SCALE;
+use coordinates::MV_COORDINATE_SCALE_FPS;
 use definition::Evaluation;
 use definition::Point;
 use matrix::Symmetric2;
 ghost use mathlib.Core.Path.{_≡_};
 ghost use Rattle.definition.specs.Fit as fit;
 ghost use Rattle.map_fit.specs.Trials.{says, nextTrialOf};
-
-// The scales of the two coordinates.
-const MV_COORDINATE_SCALE_FPS: f64 = 100.0;
-
-const BC_COORDINATE_SCALE: f64 = 0.1;
 
 const MAP_SCALED_GRADIENT_TOLERANCE: f64 = 1.0e-6;
 
@@ -53,7 +50,7 @@ fn stepped(p: Point, d: Symmetric2, determinant: f64, gradient_mv: f64, gradient
 {
     let mv = -(d.a11 * gradient_mv - d.a01 * gradient_bc) / determinant;
     let bc = -(-d.a01 * gradient_mv + d.a00 * gradient_bc) / determinant;
-    objective_mesh::bounded(
+    coordinates::bounded(
         p.mv + MV_COORDINATE_SCALE_FPS * mv,
         p.bc + BC_COORDINATE_SCALE * bc,
     )

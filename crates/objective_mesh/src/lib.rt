@@ -1,4 +1,6 @@
 // `polish_and_verify_objective_mesh` between its questions: the poll's directions and candidates, and which comes next.
+use coordinates::BC_COORDINATE_SCALE;
+use coordinates::MV_COORDINATE_SCALE_FPS;
 use definition::Convergence;
 use definition::Point;
 use matrix::Symmetric2;
@@ -7,11 +9,6 @@ ghost use mathlib.Core.Path.{_≡_};
 ghost use lib.ListN.{drop, getD};
 ghost use Rattle.definition.specs.Mesh as mesh;
 ghost use Rattle.objective_mesh.specs.Meaning.{lastDirection, passOf, pollOf, looksAs, says, seenWithin};
-
-// The scales of the two coordinates.
-const MV_COORDINATE_SCALE_FPS: f64 = 100.0;
-
-const BC_COORDINATE_SCALE: f64 = 0.1;
 
 const MAP_OBJECTIVE_INITIAL_POLL_RADIUS: f64 = 1.0e-2;
 
@@ -58,15 +55,6 @@ pub enum Turn {
     Ended(Poll),
 }
 
-// A point within the bounds of the fit.
-pub fn bounded(mv: f64, bc: f64) -> Point
-    ensures { λ r. ⌜ r ≡ mesh.boundedOf mv bc ⌝ }
-{
-    let mv = numeric::clamp(mv, criteria::TRUING_MV_MIN_FPS, criteria::TRUING_MV_MAX_FPS);
-    let bc = numeric::clamp(bc, criteria::TRUING_BC_MIN, criteria::TRUING_BC_MAX);
-    Point { mv, bc }
-}
-
 // The four coordinate directions, then the poll direction and its turns. Past the eighth it gives the eighth.
 fn direction_at(axis: Direction, j: usize) -> Point
     ensures { λ r. ⌜ r ≡ getD (mesh.directions axis) j (lastDirection axis) ⌝ }
@@ -99,7 +87,7 @@ fn direction_at(axis: Direction, j: usize) -> Point
 fn candidate(radius: f64, centre: Point, d: Point) -> Point
     ensures { λ r. ⌜ r ≡ mesh.candidateOf radius centre d ⌝ }
 {
-    bounded(
+    coordinates::bounded(
         centre.mv + radius * d.mv * MV_COORDINATE_SCALE_FPS,
         centre.bc + radius * d.bc * BC_COORDINATE_SCALE,
     )

@@ -134,7 +134,7 @@ fn check_measured<'a>(
     if !is_within(criteria::TRUING_BC_MIN, criteria::TRUING_BC_MAX, entered.bc) {
         return Checked::Faulty(1, 2);
     }
-    let n = likelihood::shortest(ranges.len(), drops.len(), sigmas.len());
+    let n = slices::shortest(ranges.len(), drops.len(), sigmas.len());
     if n < 2 {
         return Checked::Faulty(2, 0);
     }
@@ -164,7 +164,7 @@ fn check_measured<'a>(
 fn check_requested<'a>(distances: &'a [f64], future: &'a [f64], given: &'a [bool]) -> Checked
     ensures { λ r. ⌜ checkedSays r ≡ checkedRequested (requestedFrom (now (distances .entry)) (now (future .entry)) (now (given .entry))) ⌝ }
 {
-    let n = likelihood::shortest(distances.len(), future.len(), given.len());
+    let n = slices::shortest(distances.len(), future.len(), given.len());
     if 64 < n {
         return Checked::Faulty(6, 0);
     }

@@ -7,7 +7,7 @@ use lib.ListN.{length, take, length-map}
 use lib.Seq.{take-all}
 use Rattle.definition.specs.Run.{Entry, missing, drop, isMissing, dropOr0}
 use Rattle.definition.specs.Session.{entryOf, entriesOf}
-use Rattle.likelihood.specs.Arrays.{shortestOf}
+use Rattle.slices.specs.Slices.{shortestOf}
 use Rattle.likelihood.proofs.Laws.{over-take}
 use Rattle.point_mass.specs.Flight.{entriesAt, reached}
 use Rattle.point_mass.specs.Solver.{FilledReply}

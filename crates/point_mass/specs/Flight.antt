@@ -12,7 +12,7 @@ use Rattle.definition.specs.Constants.{_⊕_, _⊖_, _⊗_, _⊘_}
 use Rattle.definition.specs.Run as run
 use Rattle.definition.specs.Whole.{withinOf}
 use Rattle.definition.specs.declared.Point.{Point}
-use Rattle.likelihood.specs.Arrays.{shortestOf, over}
+use Rattle.slices.specs.Slices.{shortestOf, laidOver}
 use Rattle.point_mass.specs.declared.Flight.{Flight}
 use Rattle.point_mass.specs.declared.Entry.{Entry}
 use Rattle.point_mass.specs.declared.Entry.the-variants.{Missing, Drop}
@@ -113,5 +113,5 @@ entriesAt p unit yards = map (entryAt p unit) yards
 
 -- a reply laid over the first places of two lists, drops and flags; the places behind are as they were
 pub record Filled (p : Point) (unit : DropUnit) (yards drops₀ : List Float) (flags₀ : List Bool) (drops₁ : List Float) (flags₁ : List Bool) : Type 0 where
-  pub drops : drops₁ ≡ over (map run.dropOr0 (entriesAt p unit (reached yards drops₀ flags₀))) drops₀
-  pub flags : flags₁ ≡ over (map run.isMissing (entriesAt p unit (reached yards drops₀ flags₀))) flags₀
+  pub drops : drops₁ ≡ laidOver (map run.dropOr0 (entriesAt p unit (reached yards drops₀ flags₀))) drops₀
+  pub flags : flags₁ ≡ laidOver (map run.isMissing (entriesAt p unit (reached yards drops₀ flags₀))) flags₀

@@ -10,7 +10,7 @@ use Rattle.numeric.specs.declared.DropUnit.{DropUnit}
 use Rattle.definition.specs.Run.{entries}
 use Rattle.definition.specs.declared.Point.{Point}
 use Rattle.definition.specs.Session.{entriesOf}
-use Rattle.fresh.specs.Solver.{Solver, replyAt}
+use Rattle.fresh_outcome.specs.Solver.{Solver, replyAt}
 use Rattle.point_mass.specs.Flight.{isSane, entryAt, Filled}
 
 abbrev pub solver : DropUnit → Solver

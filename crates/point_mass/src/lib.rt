@@ -181,7 +181,7 @@ pub fn fill<'a>(
 )
     ensures { λ _. ⌜ Filled p unit (now (distances .entry)) (now (drops .entry)) (now (missing .entry)) (now (drops .exit)) (now (missing .exit)) ⌝ }
 {
-    let n = likelihood::shortest(distances.len(), drops.len(), missing.len());
+    let n = slices::shortest(distances.len(), drops.len(), missing.len());
     let mut i = 0usize;
     while i < n {
         let found = drop_at(p, unit, distances[i]);

@@ -23,7 +23,7 @@ fn with_observation(sum: f64, observation: WeightedTruingObservationV1, predicte
 pub fn chi_square(observations: &[WeightedTruingObservationV1], predicted: &[f64]) -> f64
     ensures { λ r. ⌜ r ≡ chiSquareOf (map observationIn (now (observations .entry))) (now (predicted .entry)) ⌝ }
 {
-    let n = likelihood::shorter(observations.len(), predicted.len());
+    let n = slices::shorter(observations.len(), predicted.len());
     let mut sum = 0.0;
     let mut i = 0usize;
     while i < n {

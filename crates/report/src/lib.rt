@@ -5,6 +5,7 @@ use definition::Row;
 use definition::TruingApproximationV1;
 use definition::TruingPriorsV1;
 use definition::WeightedTruingObservationResultV1;
+use fitting::MAX_ITERATIONS;
 use fitting::Progress;
 use summary::TruingUncertaintyDiagnosticsV1;
 use warnings::Warnings;
@@ -16,9 +17,6 @@ ghost use Rattle.definition.specs.Summary.{resultsOf, bandOf};
 ghost use Rattle.definition.specs.Meaning.{numberOf, approximationSays, observationsOf};
 ghost use Rattle.report.specs.Places.{nth, sigmaOf, requestedAt, resultSays, rowSays, bandAtSays, anyOutsideOf};
 ghost use Rattle.report.specs.Report.{Shows};
-
-// How many iterations a fit has at the most.
-const MAX_ITERATIONS: usize = 100;
 
 // The entered point with its chi-square; its observation results stand beside it.
 pub struct TruingBaselineV1 {

@@ -41,8 +41,8 @@ pub fn any_outside(shots: Shots, wanted: Wanted) -> bool
     let n = shots.n;
     let m = wanted.n;
     report::outside(
-        likelihood::first_places(&shots.ranges, n),
-        likelihood::first_places(&wanted.ranges, m),
+        slices::first_places(&shots.ranges, n),
+        slices::first_places(&wanted.ranges, m),
     )
 }
 
@@ -58,7 +58,7 @@ pub fn baseline_of(shots: Shots, entered: Point, drops: [f64; 64], present: bool
         &shots.ranges,
         &shots.drops,
         &shots.sigmas,
-        likelihood::first_places(&drops, n),
+        slices::first_places(&drops, n),
     );
     Baseline::Given(TruingBaselineV1 {
         muzzle_velocity_fps: entered.mv,
@@ -74,7 +74,7 @@ pub fn result_of(shots: Shots, drops: [f64; 64], i: usize) -> ResultAt
     let n = shots.n;
     report::result_at(
         i,
-        likelihood::first_places(&shots.ranges, n),
+        slices::first_places(&shots.ranges, n),
         &shots.drops,
         &shots.sigmas,
         &drops,
@@ -100,7 +100,7 @@ pub fn band_of(a: TruingApproximationV1, wanted: Wanted, table: StencilRows, i: 
     report::band_at(
         i,
         a,
-        likelihood::first_places(&wanted.ranges, n),
+        slices::first_places(&wanted.ranges, n),
         &wanted.sigmas,
         &table.predicted,
         &table.by_mv,

@@ -4,14 +4,14 @@ use definition::Point;
 use definition::Prior;
 use definition::TruingPriorsV1;
 use editing::Answer;
-use forms::Sigma;
+use lines::Sigma;
 ghost use mathlib.Core.Path.{_≡_};
 ghost use lib.ListN.{take};
 ghost use Rattle.definition.specs.Request.{Opening};
 ghost use Rattle.opening.specs.Opening.{wantedAt};
 ghost use Rattle.definition.specs.Session.{Opened};
 ghost use Rattle.editing.specs.Meaning.{seen};
-ghost use Rattle.forms.specs.Reading.{sigmaSays};
+ghost use Rattle.lines.specs.Reading.{sigmaSays};
 ghost use Rattle.requests.specs.Request.{emptyRequest, withShot, withDistance, withSpeed, withCoefficient, normal, requestedAt};
 ghost use Rattle.requests.specs.Kept.{Keeps, openingIn};
 
@@ -118,16 +118,6 @@ pub fn with_coefficient_prior(r: Request, mean: f64, sigma: f64) -> Request
     Request { priors, ..r }
 }
 
-// The first n, or all.
-pub fn first_flags<'a>(s: &'a [bool], n: usize) -> &'a [bool]
-    ensures { λ r. ⌜ now r ≡ take n (now (s .entry)) ⌝ }
-{
-    if n < s.len() {
-        return &s[..n];
-    }
-    s
-}
-
 pub fn opened(r: Request) -> Answer
     ensures { λ a. ⌜ Opened seen (openingIn r) (a .step) (a .session) ⌝ }
 {
@@ -137,13 +127,13 @@ pub fn opened(r: Request) -> Answer
     let m = r.m;
     editing::open(
         entered,
-        likelihood::first_places(&r.ranges, n),
-        likelihood::first_places(&r.drops, n),
-        likelihood::first_places(&r.sigmas, n),
+        slices::first_places(&r.ranges, n),
+        slices::first_places(&r.drops, n),
+        slices::first_places(&r.sigmas, n),
         priors,
-        likelihood::first_places(&r.distances, m),
-        likelihood::first_places(&r.future, m),
-        first_flags(&r.given, m),
+        slices::first_places(&r.distances, m),
+        slices::first_places(&r.future, m),
+        slices::first_flags(&r.given, m),
     )
 }
 

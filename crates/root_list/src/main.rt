@@ -1,5 +1,5 @@
 // Reads doubles, a line of the 16 hexadecimal digits of its bits each, and writes each one's root so. A line of another form ends it.
-use forms::ReadDouble;
+use numerals::ReadDouble;
 use libc::STDIN_FILENO;
 use libc::STDOUT_FILENO;
 
@@ -14,10 +14,10 @@ fn answer() -> bool {
     if end[0] != 10 {
         return false;
     }
-    match forms::read_double(&digits) {
+    match numerals::read_double(&digits) {
         ReadDouble::Malformed => false,
         ReadDouble::Double(x) => {
-            let root = forms::write_double(root::root(x));
+            let root = numerals::write_double(root::root(x));
             io::write_all(STDOUT_FILENO, &root) && io::write_all(STDOUT_FILENO, &[10u8])
         }
     }

@@ -270,7 +270,7 @@ fn evaluation_if<'a>(
     ensures { λ r. ⌜ r ≡ cond here (finishedOf priors p (sumsOf p (observationsOf (take n (now (ranges .entry))) (now (drops .entry)) (now (sigmas .entry))) (zipWith3 rowAt (now (predicted .entry)) (now («by_mv» .entry)) (now («by_bc» .entry))))) old ⌝ }
 {
     if here {
-        let first = likelihood::first_places(ranges, n);
+        let first = slices::first_places(ranges, n);
         return likelihood::evaluate(priors, p, first, drops, sigmas, predicted, by_mv, by_bc);
     }
     old

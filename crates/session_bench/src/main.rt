@@ -8,7 +8,7 @@ use definition::Prior;
 use definition::Step;
 use definition::TruingPriorsV1;
 use editing::Answer;
-use forms::ReadCount;
+use numerals::ReadCount;
 use libc::STDIN_FILENO;
 use libc::STDOUT_FILENO;
 use numeric::DropUnit;
@@ -62,23 +62,13 @@ fn ranges_from(first: f64, step: f64) -> [f64; 64] {
     ranges
 }
 
-// The first n, or all.
-fn first_flags<'a>(s: &'a [bool], n: usize) -> &'a [bool]
-    ensures { λ r. ⌜ now r ≡ take n (now (s .entry)) ⌝ }
-{
-    if n < s.len() {
-        return &s[..n];
-    }
-    s
-}
-
 // An array that was written through a reference is lent as a slice here, where its length is known by its type.
 fn first_drops<'a>(drops: &'a [f64; 64], n: usize) -> &'a [f64] {
-    likelihood::first_places(drops, n)
+    slices::first_places(drops, n)
 }
 
 fn first_missing<'a>(missing: &'a [bool; 64], n: usize) -> &'a [bool] {
-    first_flags(missing, n)
+    slices::first_flags(missing, n)
 }
 
 fn opened<'a>(ranges: &'a [f64], drops: &'a [f64], distances: &'a [f64]) -> Answer {
@@ -101,11 +91,11 @@ fn opened<'a>(ranges: &'a [f64], drops: &'a [f64], distances: &'a [f64]) -> Answ
         },
         ranges,
         drops,
-        likelihood::first_places(&sigmas, n),
+        slices::first_places(&sigmas, n),
         priors,
         distances,
-        likelihood::first_places(&future, m),
-        first_flags(&given, m),
+        slices::first_places(&future, m),
+        slices::first_flags(&given, m),
     )
 }
 
@@ -114,7 +104,7 @@ fn asked_about<'a>(list: Distances, ranges: &'a [f64], distances: &'a [f64]) -> 
     match list {
         Distances::Shots => ranges,
         Distances::Requested => distances,
-        Distances::New => likelihood::first_places(distances, 0),
+        Distances::New => slices::first_places(distances, 0),
     }
 }
 
@@ -137,7 +127,7 @@ fn run<'a>(
     let mut a = opened(ranges, measured, distances);
     let mut drops = [0.0; 64];
     let mut missing = [false; 64];
-    let mut left = 4546usize;
+    let mut left = editing::MAX_QUESTIONS;
     while left > 0 {
         let step = a.step;
         let Step::Question(mv, bc, list) = step else {
@@ -152,7 +142,7 @@ fn run<'a>(
     }
     let mut end = 0usize;
     if writes {
-        end = answers::put_answer(out, 0, a);
+        end = answer_text::put_answer(out, 0, a);
     }
     Total {
         questions: editing::asked(a.session),
@@ -162,7 +152,7 @@ fn run<'a>(
 }
 
 fn count_of(s: &[u8]) -> u64 {
-    match forms::read_count(s) {
+    match numerals::read_count(s) {
         ReadCount::Malformed => 0,
         ReadCount::Count(n) => n,
     }
@@ -216,7 +206,7 @@ fn runs(out: &mut [u8; 32768], times: u64, n: usize, m: usize, solver: u64, writ
         solver,
         &mut drops,
         &mut missing,
-        likelihood::first_places(&ranges, n),
+        slices::first_places(&ranges, n),
         2730.0,
         0.41,
     );
@@ -229,9 +219,9 @@ fn runs(out: &mut [u8; 32768], times: u64, n: usize, m: usize, solver: u64, writ
             out,
             solver,
             writes,
-            likelihood::first_places(&ranges, n),
+            slices::first_places(&ranges, n),
             first_drops(&drops, k),
-            likelihood::first_places(&distances, m),
+            slices::first_places(&distances, m),
         );
         questions = std::num::wrapping_add_u64(questions, one.questions);
         bytes = std::num::wrapping_add_u64(bytes, one.bytes);
@@ -269,16 +259,8 @@ fn counted(out: &mut [u8; 32768], line: &[u8]) -> Total {
     runs(out, word(line, 0), n, m, word(line, 3), writes)
 }
 
-// The first n, or all.
-fn first_bytes<'a>(s: &'a [u8], n: usize) -> &'a [u8] {
-    if n < s.len() {
-        return &s[..n];
-    }
-    s
-}
-
 fn print_line(out: &[u8; 32768], n: usize) -> bool {
-    io::write_all(STDOUT_FILENO, first_bytes(out, n)) && io::write_all(STDOUT_FILENO, &[10u8])
+    io::write_all(STDOUT_FILENO, slices::first_bytes(out, n)) && io::write_all(STDOUT_FILENO, &[10u8])
 }
 
 fn main() {

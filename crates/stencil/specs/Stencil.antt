@@ -10,7 +10,7 @@ use Rattle.definition.specs.Run.{Run, done, Entry, Reading, readingOf, dropOr0,
 use Rattle.definition.specs.Likelihood as likelihood
 use Rattle.definition.specs.Likelihood.{Rows}
 use Rattle.definition.specs.declared.Point.{Point}
-use Rattle.likelihood.specs.Arrays.{over}
+use Rattle.slices.specs.Slices.{laidOver}
 use Rattle.stencil.specs.declared.StencilRows.{StencilRows}
 use Rattle.stencil.specs.declared.OneRow.{OneRow}
 
@@ -70,11 +70,11 @@ fiveRow (suc (suc (suc (suc k)))) = 4
 
 -- drops laid over the first places of a list, if they go there
 abbrev pub laidIf : Bool → List Float → List Float → List Float
-laidIf here drops a = cond here (over drops a) a
+laidIf here drops a = cond here (laidOver drops a) a
 
 -- those at the plus point, or the slopes by those at the minus point
 abbrev pub laidPair : Bool → Bool → Float → List Float → List Float → List Float
-laidPair plus minus step drops a = cond plus (over drops a) (cond minus (over (likelihood.slopes step a drops) a) a)
+laidPair plus minus step drops a = cond plus (laidOver drops a) (cond minus (laidOver (likelihood.slopes step a drops) a) a)
 
 abbrev pub gapAfter : ℕ → ℕ → ℕ → ℕ
 gapAfter row gap found = cond (eqb row 0) found (cond (ltb row 5) (firstOf gap found) gap)

@@ -9,11 +9,11 @@ use borrow.Author.Tests.{leb-true, leb-false, eq-eqb, ne-eqb}
 use lib.Dec.{eqb, leb}
 use lib.ListN.{length, take, drop, set, getD, length-append, length-set, length-take, drop-of-length-le}
 use lib.Seq.{drop-cons, take-all, take-suc-set, take-append-le, length-take-le}
-use Rattle.forms.specs.Lines.{Form, formOf, wordsOf, putFirst}
-use Rattle.forms.specs.Reading.{startOf, takeOf, formIn, short, readRest, readAll}
-use Rattle.forms.specs.declared.Line.{Line}
-use Rattle.forms.proofs.Lines.{line-form, long-same}
-use Rattle.texts.specs.Writing.{Text}
+use Rattle.lines.specs.Lines.{Form, formOf, wordsOf, putFirst}
+use Rattle.lines.specs.Reading.{startOf, takeOf, formIn, short, readRest, readAll}
+use Rattle.lines.specs.declared.Line.{Line}
+use Rattle.lines.proofs.Lines.{line-form, long-same}
+use Rattle.report_text.specs.Writing.{Text}
 use Rattle.conversation.specs.Conversation.{Conversation, Answered, unendedText, nextLine, answerTo, textOf, initial}
 use Rattle.stream.specs.Output.{unended, onFirst, linesOf, answersTo, outputOf}
 use Rattle.stream.specs.Bytes.{Cut, uncut, cutByte, cutFrom, some, Reads, lineIn, endsIn, restIn, Scans, outputFrom, Holds, Goes, Feeds}

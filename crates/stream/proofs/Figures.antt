@@ -11,10 +11,10 @@ use Rattle.definition.specs.Likelihood.{withPriorGradientOf, finishedOf, evalua
 use Rattle.definition.specs.Whole.{withinOf, positiveOf, soundObservationOf, soundPriorOf, soundRequestedOf, checkedPoint, checkedCount, checkedMeasured}
 use Rattle.definition.specs.Whole.{checkedRequested, bandRows, baseline, concluded, banded, fitted, run, whole, asked, edit}
 use Rattle.definition.specs.Session.{moreOf}
-use Rattle.forms.specs.Numbers.{digitOf, glyphOf, doubleOf, doubleText, countOf, countText}
+use Rattle.numerals.specs.Numbers.{digitOf, glyphOf, doubleOf, doubleText, countOf, countText}
 use Rattle.words.specs.Words.{bytes}
-use Rattle.forms.specs.Lines.{formOf, enteredOf, shotOf, priorOf, distanceOf, putInOf, exchangeOf, takeOutOf}
-use Rattle.texts.specs.Texts.{led, joined, bracketed, questionText, declinedText, askedText, malformedText}
+use Rattle.lines.specs.Lines.{formOf, enteredOf, shotOf, priorOf, distanceOf, putInOf, exchangeOf, takeOutOf}
+use Rattle.report_text.specs.Texts.{led, joined, bracketed, questionText, declinedText, askedText, malformedText}
 use Rattle.conversation.specs.Conversation.{answerTo}
 use Rattle.stream.specs.Output.{outputOf}
 

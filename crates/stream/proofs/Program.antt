@@ -4,7 +4,7 @@ use mathlib.Core.Path.{_≡_, refl, sym, ap, _∙_, subst}
 use mathlib.Core.List.{List, [], _∷_, _++_, append-assoc, append-nil}
 use lib.ListN.{length, take, drop, drop-of-length-le}
 use lib.Seq.{take-at}
-use Rattle.texts.specs.Writing.{Text}
+use Rattle.report_text.specs.Writing.{Text}
 use Rattle.conversation.specs.Conversation.{Conversation, initial}
 use Rattle.stream.specs.Output.{outputOf}
 use Rattle.stream.specs.Bytes.{outputFrom, Holds}

@@ -5,10 +5,10 @@ use mathlib.Core.Bool.{Bool, true, false, cond}
 use mathlib.Core.List.{List, [], _∷_, _++_}
 use lib.Dec.{eqb}
 use lib.ListN.{length, take, drop}
-use Rattle.forms.specs.Lines.{formOf}
-use Rattle.forms.specs.Reading.{startOf, takeOf}
-use Rattle.forms.specs.declared.Line.{Line}
-use Rattle.texts.specs.Writing.{Text}
+use Rattle.lines.specs.Lines.{formOf}
+use Rattle.lines.specs.Reading.{startOf, takeOf}
+use Rattle.lines.specs.declared.Line.{Line}
+use Rattle.report_text.specs.Writing.{Text}
 use Rattle.conversation.specs.Conversation.{Conversation, nextLine, answerTo, textOf}
 use Rattle.stream.specs.Output.{unended}
 use Rattle.conversation.specs.Tracks.{Tracks, Fills}

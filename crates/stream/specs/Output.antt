@@ -4,8 +4,8 @@ use Prim.Native.Nat.{ℕ}
 use mathlib.Core.Bool.{cond}
 use mathlib.Core.List.{List, [], _∷_, _++_}
 use lib.Dec.{eqb}
-use Rattle.forms.specs.Lines.{formOf}
-use Rattle.texts.specs.Writing.{Text}
+use Rattle.lines.specs.Lines.{formOf}
+use Rattle.report_text.specs.Writing.{Text}
 use Rattle.conversation.specs.Conversation.{Conversation, initial, nextLine, answerTo, textOf, unendedText}
 
 -- a byte in front of the first line, or of what follows the last line feed

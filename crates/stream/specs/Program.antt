@@ -3,7 +3,7 @@ use mathlib.Core.Path.{_≡_}
 use mathlib.Core.List.{List, [], _∷_, _++_}
 use Prim.Native.Nat.{ℕ, _≤_}
 use lib.ListN.{length, take}
-use Rattle.texts.specs.Writing.{Text}
+use Rattle.report_text.specs.Writing.{Text}
 use Rattle.conversation.specs.Conversation.{initial}
 use Rattle.stream.specs.Output.{outputOf}
 use Rattle.stream.specs.Bytes.{Holds, Feeds, Finishes}

@@ -1,12 +1,12 @@
 // Standard input as it comes, in any pieces: bytes become lines, and each line gets its answer in a lent buffer.
 use conversation::Conversation;
-use forms::Line;
+use lines::Line;
 ghost use mathlib.Core.Path.{_≡_};
 ghost use mathlib.Core.List.{List, []};
 ghost use Prim.Native.Nat.{ℕ};
 ghost use lib.ListN.{take};
-ghost use Rattle.forms.specs.Lines.{formOf};
-ghost use Rattle.forms.specs.Reading.{formIn, short};
+ghost use Rattle.lines.specs.Lines.{formOf};
+ghost use Rattle.lines.specs.Reading.{formIn, short};
 ghost use Rattle.conversation.specs.Conversation.{initial};
 ghost use Rattle.stream.specs.Bytes.{Reads, Scans, Holds, Feeds, Finishes};
 
@@ -20,16 +20,6 @@ pub struct Reader {
     line: Line,
 }
 
-// The first n bytes, or all.
-pub fn first_bytes<'a>(s: &'a [u8], n: usize) -> &'a [u8]
-    ensures { λ r. ⌜ now r ≡ take n (now (s .entry)) ⌝ }
-{
-    if n < s.len() {
-        return &s[..n];
-    }
-    s
-}
-
 fn blank_reader() -> Reader
     ensures { λ r. ⌜ Reads r [] ⌝ }
 {
@@ -38,7 +28,7 @@ fn blank_reader() -> Reader
         len: 0,
         first: true,
         begun: false,
-        line: forms::start(),
+        line: lines::start(),
     }
 }
 
@@ -46,7 +36,7 @@ fn blank_reader() -> Reader
 fn word_of<'a>(w: &'a [u8; 32], n: usize) -> &'a [u8]
     ensures { λ r. ⌜ now r ≡ take n (now (w .entry)) ⌝ }
 {
-    first_bytes(w, n)
+    slices::first_bytes(w, n)
 }
 
 // The line ends here.
@@ -56,7 +46,7 @@ fn whole_line(r: Reader) -> Line
     let len = r.len;
     let first = r.first;
     let line = r.line;
-    forms::take(line, first_bytes(&r.word, len), first, true)
+    lines::take(line, slices::first_bytes(&r.word, len), first, true)
 }
 
 pub struct Scanned {
@@ -93,7 +83,7 @@ fn scan(r: Reader, bytes: &[u8], at: usize) -> Scanned
         }
         begun = true;
         if c == 32 {
-            line = forms::take(line, word_of(&word, len), first, false);
+            line = lines::take(line, word_of(&word, len), first, false);
             len = 0;
             first = false;
         } else if len < 32 {

@@ -1,4 +1,6 @@
 // What a finished fit is reported as: observation results, `build_approximation` and the diagnostics.
+use coordinates::BC_COORDINATE_SCALE;
+use coordinates::MV_COORDINATE_SCALE_FPS;
 use definition::Convergence;
 use definition::Evaluation;
 use definition::Number;
@@ -18,11 +20,6 @@ ghost use Rattle.definition.specs.Fit.{gradientNormOf};
 ghost use Rattle.definition.specs.Summary.{resultOf, interval95, covarianceOf, correlationOf, withIntervals, buildApproximationOf, approximationOf, effectiveCountOf, effectiveCount, degreesOfFreedom, reducedChiSquare, criterion, pollRadius, pollImprovement};
 ghost use Rattle.definition.specs.Meaning.{numberOf, convergenceOf, approximationSays, observationOf};
 ghost use Rattle.summary.specs.Summary.{criterionSays, diagnosticsSays, diagnosticsBy};
-
-// The scales of the two coordinates: 100 fps and 0.1.
-const MV_COORDINATE_SCALE_FPS: f64 = 100.0;
-
-const BC_COORDINATE_SCALE: f64 = 0.1;
 
 // Rust's f64::EPSILON, 2^-52.
 const EPSILON: f64 = 2.220446049250313e-16;

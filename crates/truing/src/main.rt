@@ -33,7 +33,7 @@ fn finish(s: State, out: &mut [u8; 32768]) -> usize
 // ---- the loop
 
 fn write_out(out: &[u8; 32768], end: usize) {
-    let written = io::write_all(STDOUT_FILENO, stream::first_bytes(out, end));
+    let written = io::write_all(STDOUT_FILENO, slices::first_bytes(out, end));
 }
 
 // Takes the bytes that were read, and writes each answer out.

@@ -1,6 +1,6 @@
 -- `answer`: the line in its number and place, and its answer whole in the buffer.
 use borrow.Author.Needs.{needs}
-use Rattle.texts.proofs.Writing.{same-room}
+use Rattle.report_text.proofs.Writing.{same-room}
 use Rattle.conversation.specs.Conversation.{nextLine, answerTo}
 use Rattle.conversation.proofs.Responses.{answered-fills}
 use Rattle.conversation.proofs.answer.Statement.{statement}

@@ -1,5 +1,5 @@
 use Rattle.conversation.specs.Tracks.{responseText}
-use Rattle.texts.proofs.Writing.{as-text, same-room}
+use Rattle.report_text.proofs.Writing.{as-text, same-room}
 use mathlib.Core.Path.{sym, ap}
 use borrow.Author.Needs.{needs}
 use Rattle.conversation.proofs.put_response.Statement.{statement}

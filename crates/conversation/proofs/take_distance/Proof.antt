@@ -1,4 +1,4 @@
-use Rattle.forms.specs.Reading.{sigmaSays}
+use Rattle.lines.specs.Reading.{sigmaSays}
 use Rattle.conversation.specs.declared.Section.the-variants.{Shots, Priors, Distances}
 use Rattle.requests.specs.Request.{withShot, withSpeed, withCoefficient, withDistance, normal, requestedAt}
 use Rattle.conversation.specs.Conversation.{answerTo, collected, takesShot, takesCoefficient, takesDistance}

@@ -1,5 +1,5 @@
 use Rattle.conversation.specs.Conversation.{answerTo, replyOf}
-use Rattle.forms.specs.Reading.{entriesIn}
+use Rattle.lines.specs.Reading.{entriesIn}
 use Rattle.editing.proofs.Contracts.{Replied}
 use lib.Ieee.{Float}
 use lib.ListN.{length, take, length-take}

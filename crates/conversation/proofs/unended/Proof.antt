@@ -2,9 +2,9 @@
 use Prim.Native.Nat.{ℕ}
 use mathlib.Core.Path.{ap, subst}
 use borrow.Author.Needs.{needs}
-use Rattle.texts.specs.Texts.{malformedText}
-use Rattle.texts.proofs.Writing.{same-room}
-use Rattle.answers.specs.Answers.{line}
+use Rattle.report_text.specs.Texts.{malformedText}
+use Rattle.report_text.proofs.Writing.{same-room}
+use Rattle.answer_text.specs.Answers.{line}
 use Rattle.conversation.specs.Tracks.{Fills}
 use Rattle.conversation.proofs.Responses.{malformed-fills}
 use Rattle.conversation.proofs.unended.Statement.{statement}

@@ -10,23 +10,23 @@ use lib.ListN.{length, getD, take, set, length-set}
 use lib.Ieee.{Float, nan}
 use Rattle.definition.specs.Run.{dropOr0}
 use Rattle.definition.specs.Session.{entryOf, entriesOf}
-use Rattle.likelihood.specs.Arrays.{shortestOf, over}
+use Rattle.slices.specs.Slices.{shortestOf, laidOver}
 use Rattle.likelihood.proofs.Laws.{over-suc, over-all, drops-length, drops-at}
 use Rattle.likelihood.proofs.lay_drops.Statement.{statement}
 use Rattle.likelihood.proofs.lay_drops.Tie as tie
 
 one-more : (ds : List Float) (ms : List Bool) (out : List Float) (i : ℕ) → i < length ds → i < length ms → i < length out
-    → set (over (take i (map dropOr0 (entriesOf ds ms))) out) i (dropOr0 (entryOf (getD ds i nan) (getD ms i false)))
-    ≡ over (take (suc i) (map dropOr0 (entriesOf ds ms))) out
+    → set (laidOver (take i (map dropOr0 (entriesOf ds ms))) out) i (dropOr0 (entryOf (getD ds i nan) (getD ms i false)))
+    ≡ laidOver (take (suc i) (map dropOr0 (entriesOf ds ms))) out
 one-more ds ms out i g h k =
     let v = map dropOr0 (entriesOf ds ms) in
     let e = drops-length ds ms in
-    ap (λ (x : Float). set (over (take i v) out) i x) (sym (drops-at ds ms i g h)) ∙ over-suc v out i nan (omega arith) k
+    ap (λ (x : Float). set (laidOver (take i v) out) i x) (sym (drops-at ds ms i g h)) ∙ over-suc v out i nan (omega arith) k
 
 abbrev Inv-loop : tie.InvT-loop
 Inv-loop out₀ drops missing n i₀ out i =
     (n ≡ min (length out₀) (min (length drops) (length missing))) × (i ≤ n) × (length out ≡ length out₀)
-    × (out ≡ over (take i (map dropOr0 (entriesOf drops missing))) out₀)
+    × (out ≡ laidOver (take i (map dropOr0 (entriesOf drops missing))) out₀)
 
 abbrev μ-loop : tie.MeasureT-loop
 μ-loop out₀ drops missing n i₀ out i = n - i

@@ -11,7 +11,7 @@ use lib.Ieee.{Float, nan}
 use Rattle.definition.specs.Run.{dropOr0}
 use Rattle.definition.specs.Likelihood.{slope, slopes}
 use Rattle.definition.specs.Session.{entryOf, entriesOf}
-use Rattle.likelihood.specs.Arrays.{shortestOf, over}
+use Rattle.slices.specs.Slices.{shortestOf, laidOver}
 use Rattle.likelihood.proofs.Laws.{over-suc, over-all, over-past, zip-at, zip-length, drops-length, drops-at}
 use Rattle.likelihood.proofs.lay_slopes.Statement.{statement}
 use Rattle.likelihood.proofs.lay_slopes.Tie as tie
@@ -24,23 +24,23 @@ module _ (step : Float) (ds : List Float) (ms : List Bool) (out : List Float) wh
   all = slopes step out lower
 
   one-more : (i : ℕ) → i < length ds → i < length ms → i < length out
-      → set (over (take i all) out) i (slope step (getD (over (take i all) out) i nan) (dropOr0 (entryOf (getD ds i nan) (getD ms i false))))
-      ≡ over (take (suc i) all) out
+      → set (laidOver (take i all) out) i (slope step (getD (laidOver (take i all) out) i nan) (dropOr0 (entryOf (getD ds i nan) (getD ms i false))))
+      ≡ laidOver (take (suc i) all) out
   one-more i g h k =
       let e = drops-length ds ms in
       let f = zip-length (slope step) out lower in
       let t = length-take i all in
       let m : i < length lower = omega arith in
-      ap (λ (x : Float). set (over (take i all) out) i (slope step x (dropOr0 (entryOf (getD ds i nan) (getD ms i false)))))
+      ap (λ (x : Float). set (laidOver (take i all) out) i (slope step x (dropOr0 (entryOf (getD ds i nan) (getD ms i false)))))
       (over-past (take i all) out i nan (omega arith))
-      ∙ ap (λ (x : Float). set (over (take i all) out) i (slope step (getD out i nan) x)) (sym (drops-at ds ms i g h))
-      ∙ ap (λ (x : Float). set (over (take i all) out) i x) (sym (zip-at (slope step) out lower i nan nan nan k (omega arith)))
+      ∙ ap (λ (x : Float). set (laidOver (take i all) out) i (slope step (getD out i nan) x)) (sym (drops-at ds ms i g h))
+      ∙ ap (λ (x : Float). set (laidOver (take i all) out) i x) (sym (zip-at (slope step) out lower i nan nan nan k (omega arith)))
       ∙ over-suc all out i nan (omega arith) k
 
 abbrev Inv-loop : tie.InvT-loop
 Inv-loop out₀ step drops missing n i₀ out i =
     (n ≡ min (length out₀) (min (length drops) (length missing))) × (i ≤ n) × (length out ≡ length out₀)
-    × (out ≡ over (take i (slopes step out₀ (map dropOr0 (entriesOf drops missing)))) out₀)
+    × (out ≡ laidOver (take i (slopes step out₀ (map dropOr0 (entriesOf drops missing)))) out₀)
 
 abbrev μ-loop : tie.MeasureT-loop
 μ-loop out₀ step drops missing n i₀ out i = n - i

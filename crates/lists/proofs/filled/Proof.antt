@@ -7,13 +7,13 @@ use borrow.Author.Needs.{needs}
 use lib.ListN.{length, take, getD, replicate, length-set}
 use lib.Ieee.{nan}
 use Rattle.numeric.specs.Numeric.{zero64}
-use Rattle.likelihood.specs.Arrays.{over}
+use Rattle.slices.specs.Slices.{laidOver}
 use Rattle.lists.proofs.Arrays.{places-suc, places-all}
 use Rattle.lists.proofs.filled.Statement.{statement}
 use Rattle.lists.proofs.filled.Tie as tie
 
 abbrev Inv-loop : tie.InvT-loop
-Inv-loop s a₀ i₀ a i = (i ≤ 64) × (i ≤ length s) × (length a ≡ 64) × (a ≡ over (take i s) (replicate 64 zero64))
+Inv-loop s a₀ i₀ a i = (i ≤ 64) × (i ≤ length s) × (length a ≡ 64) × (a ≡ laidOver (take i s) (replicate 64 zero64))
 
 abbrev μ-loop : tie.MeasureT-loop
 μ-loop s a₀ i₀ a i = 64 - i

@@ -9,7 +9,7 @@ use lib.ListN.{length, take, replicate, length-set}
 use lib.Ieee.{nan}
 use Rattle.numeric.specs.Numeric.{zero64}
 use Rattle.definition.specs.Lists.{zipWith}
-use Rattle.likelihood.specs.Arrays.{over}
+use Rattle.slices.specs.Slices.{laidOver}
 use Rattle.likelihood.proofs.Laws.{zip-length, zip-at}
 use Rattle.lists.specs.Lists.{sigmaOr0}
 use Rattle.lists.proofs.Arrays.{places-suc, places-all}
@@ -18,7 +18,7 @@ use Rattle.lists.proofs.sigmas_or_0.Tie as tie
 
 abbrev Inv-loop : tie.InvT-loop
 Inv-loop future given a₀ i₀ a i =
-    (i ≤ 64) × (i ≤ length future) × (i ≤ length given) × (length a ≡ 64) × (a ≡ over (take i (zipWith sigmaOr0 future given)) (replicate 64 zero64))
+    (i ≤ 64) × (i ≤ length future) × (i ≤ length given) × (length a ≡ 64) × (a ≡ laidOver (take i (zipWith sigmaOr0 future given)) (replicate 64 zero64))
 
 abbrev μ-loop : tie.MeasureT-loop
 μ-loop future given a₀ i₀ a i = 64 - i

@@ -9,7 +9,7 @@ use borrow.Author.Needs.{needs}
 use lib.ListN.{length, getD, take, set, length-set}
 use lib.Ieee.{nan}
 use Rattle.definition.specs.Run.{dropOr0, isMissing}
-use Rattle.likelihood.specs.Arrays.{shortestOf, over}
+use Rattle.slices.specs.Slices.{shortestOf, laidOver}
 use Rattle.point_mass.specs.Flight.{entryAt, entriesAt}
 use Rattle.point_mass.proofs.fill.Statement.{statement}
 use Rattle.point_mass.proofs.fill.Tie as tie
@@ -17,7 +17,7 @@ use Rattle.point_mass.proofs.fill.Tie as tie
 -- one place more
 one-more :
     {A B C : Type 0} (g : A → B) (f : B → C) (xs : List A) (out : List C) (i : ℕ) (d : A) → i < length xs → i < length out
-    → set (over (map f (map g (take i xs))) out) i (f (g (getD xs i d))) ≡ over (map f (map g (take (suc i) xs))) out
+    → set (laidOver (map f (map g (take i xs))) out) i (f (g (getD xs i d))) ≡ laidOver (map f (map g (take (suc i) xs))) out
 one-more g f [] out i d h k = absurd (not-suc-le-zero h)
 one-more g f (x ∷ xs) [] i d h k = absurd (not-suc-le-zero k)
 one-more g f (x ∷ xs) (y ∷ out) zero d h k = refl
@@ -30,8 +30,8 @@ Inv-loop p unit distances drops₀ missing₀ n i₀ drops missing i =
     × (i ≤ n)
     × (length drops ≡ length drops₀)
     × (length missing ≡ length missing₀)
-    × (drops ≡ over (map dropOr0 (entriesAt p unit (take i distances))) drops₀)
-    × (missing ≡ over (map isMissing (entriesAt p unit (take i distances))) missing₀)
+    × (drops ≡ laidOver (map dropOr0 (entriesAt p unit (take i distances))) drops₀)
+    × (missing ≡ laidOver (map isMissing (entriesAt p unit (take i distances))) missing₀)
 
 abbrev μ-loop : tie.MeasureT-loop
 μ-loop p unit distances drops₀ missing₀ n i₀ drops missing i = n - i

@@ -1,6 +1,6 @@
 -- `records::chi_square` meets its contract: a walk of its MIR, by hand. Both borrows are looked into before the loop and shut after it.
 -- Between the two a share of every record and of every drop is at hand: a turn takes one of each out of its row, reads it where it lies, and puts it back.
--- All that the proof knows of `likelihood::shorter` and of `with_observation` is that they meet their contracts.
+-- All that the proof knows of `slices::shorter` and of `with_observation` is that they meet their contracts.
 -- Assumes nothing.
 use mathlib.Core.Path.{_≡_, refl, sym, ap, _∙_, subst}
 use Prim.Native.Nat.{ℕ, zero, suc, _+_, _*_, _<_, _^_, min}
@@ -64,10 +64,10 @@ use Rattle.records.specs.Records.{observationIn}
 use Rattle.records.specs.declared.WeightedTruingObservationV1.{WeightedTruingObservationV1}
 use Rattle.records.proofs.WeightedTruingObservationV1 as T
 use Rattle.records.proofs.WeightedTruingObservationV1.Laws as T′
-use Rattle.likelihood.proofs.shorter as shorter
-use Rattle.likelihood.proofs.shorter.Symbol as shorter-def
-use Rattle.likelihood.proofs.shorter.Symbol.{name as #likelihood·shorter}
-use Rattle.likelihood.proofs.shorter.Met as shorter-thm
+use Rattle.slices.proofs.shorter as shorter
+use Rattle.slices.proofs.shorter.Symbol as shorter-def
+use Rattle.slices.proofs.shorter.Symbol.{name as #slices·shorter}
+use Rattle.slices.proofs.shorter.Met as shorter-thm
 use Rattle.records.proofs.with_observation as with-observation
 use Rattle.records.proofs.with_observation.Symbol as with-observation-def
 use Rattle.records.proofs.with_observation.Symbol.{name as #records·with-observation}
@@ -203,7 +203,7 @@ module _ {M : Type 1} (𝓤 : URA M) (H : Heap 𝓤) (A : Atoms 𝓤) (W : Given
       frame ! $ frame ! $ feqI ! Bool (Ieee.fits binary64 r) true (is-true (Ieee.fits binary64 r) g) $
       feqI ! (List Val) (vfloat binary64 r ∷ []) (vfloat binary64 r ∷ []) refl $ done !
 
-  module _ (𝓣 : Tables 𝓤 H) (shorter-known : Triple 𝓤 (𝓣 .C #likelihood·shorter) (Shorter 𝓤 H A W mem run))
+  module _ (𝓣 : Tables 𝓤 H) (shorter-known : Triple 𝓤 (𝓣 .C #slices·shorter) (Shorter 𝓤 H A W mem run))
       (added-known : Triple 𝓤 (𝓣 .C #records·with-observation) (Added 𝓤 H A W mem run))
       (g : Room T.the-row (length os)) (g′ : Room f64 (length ps)) (s s′ : Share) (l₀ l₁ l₂ l₃ l₄ l₅ l₆ l₇ l₈ l₉ l₁₀ l₁₁ l₁₂ l₁₃ l₁₄ : ℕ) where
     abbrev C : Calls 𝓤 H
@@ -370,7 +370,7 @@ module _ {M : Type 1} (𝓤 : URA M) (H : Heap 𝓤) (A : Atoms 𝓤) (W : Given
           (exI 𝓤 (λ (j : ℕ). guard 𝓤 (j + n ≡ n) (⋆ 𝓤 H A (At j))) 0))
           (loop-rule 𝓤 H (W .laws) 𝓣 _<_ (Nat·lt-wfRel .wf) E steps.turn-1 Left Inv turns n)
 
-      -- after the call of `likelihood::shorter`
+      -- after the call of `slices::shorter`
       sums : Sq W (Held (‵ (froom word l₅ 0)) (‵ (froom float l₄ 0)) (‵ (fat fullShare word l₃ 0 (vint w64 n)))) (runs C Λ E steps.t-4 (atRet E Post))
       sums =
           assigns ! (of-opd ! (float-lit ! tt)) (from ! (stop !)) (init ! 3 refl (tt, ofBits-fits binary64 0)) $
@@ -396,7 +396,7 @@ module _ {M : Type 1} (𝓤 : URA M) (H : Heap 𝓤) (A : Atoms 𝓤) (W : Given
         rewrite ! 13 (λ (y : Val). ‵ (fat fullShare word l₃ 0 y)) (ap only (is .0)) refl $ forget ! 15 refl $ forget ! 16 refl $ sums n e))))
 
   -- the locals are allocated, the arguments stored, and both borrows looked into
-  walk : (𝓣 : Tables 𝓤 H) → Triple 𝓤 (𝓣 .C #likelihood·shorter) (Shorter 𝓤 H A W mem run) → Triple 𝓤 (𝓣 .C #records·with-observation) (Added 𝓤 H A W mem run)
+  walk : (𝓣 : Tables 𝓤 H) → Triple 𝓤 (𝓣 .C #slices·shorter) (Shorter 𝓤 H A W mem run) → Triple 𝓤 (𝓣 .C #records·with-observation) (Added 𝓤 H A W mem run)
       → Room T.the-row (length os) → Room f64 (length ps)
       → ent 𝓤 (onEntry 𝓤 H A f.signature (κ, (κ′, tt)) (q, (q′, tt)) (xo, (xp, tt)) at) (WpFn 𝓤 H (𝓣 .C) (𝓣 .Λ) code.function (vo ∷ vp ∷ []) Post)
   walk 𝓣 shorter-known added-known g g′ =
@@ -424,7 +424,7 @@ module _ {M : Type 1} (𝓤 : URA M) (H : Heap 𝓤) (A : Atoms 𝓤) (W : Given
       starts 𝓣 shorter-known added-known g g′ s s′ l₀ l₁ l₂ l₃ l₄ l₅ l₆ l₇ l₈ l₉ l₁₀ l₁₁ l₁₂ l₁₃ l₁₄)))))))))))))))))
 
 module _ {M : Type 1} (𝓤 : URA M) (H : Heap 𝓤) (A : Atoms 𝓤) (W : Given 𝓤 H A) (mem : Memory → SProp 𝓤) (run : Routine → Fun 𝓤) (𝓣 : Tables 𝓤 H)
-    (shorter-known : Triple 𝓤 (𝓣 .C #likelihood·shorter) (Shorter 𝓤 H A W mem run))
+    (shorter-known : Triple 𝓤 (𝓣 .C #slices·shorter) (Shorter 𝓤 H A W mem run))
     (added-known : Triple 𝓤 (𝓣 .C #records·with-observation) (Added 𝓤 H A W mem run)) where
   chi-square-walks : Walks 𝓤 H A f.ended stayed (WpFn 𝓤 H (𝓣 .C) (𝓣 .Λ) code.function) (f.clauses 𝓤 H A mem run)
   chi-square-walks =
@@ -446,7 +446,7 @@ chi-square-spec 𝓤 H 𝓜 𝓖 𝓡 =
     entered 𝓤 H (tripleOf 𝓤 H (𝓖 .A) f.signature (f.spec 𝓤 H (𝓖 .A) (𝓜 .mem) (𝓡 .run)))
     (tables 𝓤 H 𝓜 𝓡 code.env .C) (tables 𝓤 H 𝓜 𝓡 code.env .Λ) #records·chi-square code.function (code.unfolded 𝓤 H 𝓜 𝓡)
     (chi-square-meets 𝓤 H (𝓖 .A) (givenOf 𝓤 H 𝓜 𝓖) (𝓜 .mem) (𝓡 .run) (tablesOf 𝓤 H 𝓜 (tables 𝓤 H 𝓜 𝓡 code.env))
-    (cited 𝓤 H (Shorter 𝓤 H (𝓖 .A) (givenOf 𝓤 H 𝓜 𝓖) (𝓜 .mem) (𝓡 .run)) 𝓜 𝓡 code.env #likelihood·shorter shorter-def.routine code.calls-likelihood·shorter
+    (cited 𝓤 H (Shorter 𝓤 H (𝓖 .A) (givenOf 𝓤 H 𝓜 𝓖) (𝓜 .mem) (𝓡 .run)) 𝓜 𝓡 code.env #slices·shorter shorter-def.routine code.calls-slices·shorter
     (shorter-thm.met 𝓤 H 𝓜 𝓖 𝓡))
     (cited 𝓤 H (Added 𝓤 H (𝓖 .A) (givenOf 𝓤 H 𝓜 𝓖) (𝓜 .mem) (𝓡 .run)) 𝓜 𝓡 code.env #records·with-observation with-observation-def.routine
     code.calls-records·with-observation (with-observation-thm.met 𝓤 H 𝓜 𝓖 𝓡)))

@@ -1,7 +1,7 @@
 use Rattle.requests.specs.Kept.{Keeps}
 use Rattle.requests.specs.Request.{withDistance, requestedAt}
-use Rattle.forms.specs.declared.Sigma.{Sigma}
-use Rattle.forms.specs.Reading.{sigmaSays}
+use Rattle.lines.specs.declared.Sigma.{Sigma}
+use Rattle.lines.specs.Reading.{sigmaSays}
 use Rattle.definition.specs.Request.{Opening}
 use mathlib.Core.Path.{sym, subst}
 use borrow.Author.Needs.{needs}

@@ -6,8 +6,8 @@ use borrow.Author.Needs.{needs}
 use borrow.Author.Tests.{eq-eqb, ne-eqb}
 use native.Mathlib.Omega.{arith}
 use lib.ListN.{length, getD}
-use Rattle.forms.specs.Reading.{takeOf}
-use Rattle.forms.specs.declared.Line.{Line}
+use Rattle.lines.specs.Reading.{takeOf}
+use Rattle.lines.specs.declared.Line.{Line}
 use Rattle.stream.specs.declared.Reader.{Reader}
 use Rattle.stream.proofs.Bytes.{reads-blank, reads-full, reads-more, Scanning, scan-starts, scan-on, scan-ends, scan-stops}
 use Rattle.stream.proofs.scan.Statement.{statement}

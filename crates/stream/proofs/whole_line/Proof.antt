@@ -1,5 +1,5 @@
 use mathlib.Core.Bool.{true, false}
-use Rattle.forms.specs.Reading.{takeOf, formIn}
+use Rattle.lines.specs.Reading.{takeOf, formIn}
 use mathlib.Core.List.{List}
 use Prim.Native.Nat.{ℕ}
 use mathlib.Core.Path.{_∙_, ap}

@@ -1,4 +1,0 @@
--- Definitions that the contracts of the crate `forms` cite, written from the line protocol of the program `truing`.
-pub mod Numbers
-pub mod Lines
-pub mod Reading
