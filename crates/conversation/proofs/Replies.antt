@@ -22,12 +22,13 @@ use Rattle.editing.specs.declared.Session.{Session}
 use Rattle.demands.specs.Calls.{Call, reply, resume, Editing, At, restBy, rest, Taking, declines, takes, takingReply, stance, taken, unlessDeclined, after}
 use Rattle.demands.specs.Calls.{due, dueTo}
 use Rattle.demands.specs.Standing.{IsNew, News}
-use Rattle.lines.specs.Lines.{Entry, Form}
+use Rattle.definition.specs.Run.{Entry, dropOr0, isMissing}
+use Rattle.lines.specs.Lines.{Form}
 use Rattle.lines.specs.Lines as form
 use Rattle.lines.specs.Reading.{short}
 use Rattle.requests.specs.Kept.{kept}
 use Rattle.requests.proofs.Openings.{many-shots, many-distances}
-use Rattle.conversation.specs.Conversation.{Conversation, dropOf, isMissing, replyOf, says, calls, answerTo}
+use Rattle.conversation.specs.Conversation.{Conversation, replyOf, says, calls, answerTo}
 use Rattle.conversation.specs.Tracks.{Stands}
 
 -- ---- a question has at most 64 distances
@@ -81,13 +82,13 @@ asks-few s o t h p w k e = by (t .last) (h .inv .news) e
 
 -- ---- more than 65 entries
 
-drops-long : (es : List Entry) → length (map dropOf es) ≡ length es
+drops-long : (es : List Entry) → length (map dropOr0 es) ≡ length es
 drops-long [] = refl
 drops-long (e ∷ es) = let h = drops-long es in omega arith
 
-wrong-length : (n : ℕ) (es : List Entry) → n < length es → rightLength n (map dropOf es) (map isMissing es) ≡ false
+wrong-length : (n : ℕ) (es : List Entry) → n < length es → rightLength n (map dropOr0 es) (map isMissing es) ≡ false
 wrong-length n es h =
-    ap (λ (b : Bool). b && eqb (length (map isMissing es)) n) (ne-eqb (length (map dropOf es)) n (λ q. omega (arith, drops-long es)))
+    ap (λ (b : Bool). b && eqb (length (map isMissing es)) n) (ne-eqb (length (map dropOr0 es)) n (λ q. omega (arith, drops-long es)))
 
 module _ (o : Opening) (t : At) where
   same-declined : (x y : Call) (n : ℕ) → stance o t x ≡ declines n → stance o t y ≡ declines n → (after o t x ≡ after o t y) × (dueTo o t x ≡ dueTo o t y)
@@ -96,9 +97,9 @@ module _ (o : Opening) (t : At) where
     ap (λ (z : Taking). due z (rest o (after o t x))) e ∙ sym (ap (λ (z : Taking). due z (rest o (after o t y))) f),
   )
 
-  closed : {u : Run Finished} (es : List Entry) → rest o t ≡ u → takingReply (sizesFor o) u (map dropOf es) (map isMissing es) ≡ declines 8
+  closed : {u : Run Finished} (es : List Entry) → rest o t ≡ u → takingReply (sizesFor o) u (map dropOr0 es) (map isMissing es) ≡ declines 8
       → stance o t (replyOf es) ≡ declines 8
-  closed es e q = ap (λ (v : Run Finished). takingReply (sizesFor o) v (map dropOf es) (map isMissing es)) e ∙ q
+  closed es e q = ap (λ (v : Run Finished). takingReply (sizesFor o) v (map dropOr0 es) (map isMissing es)) e ∙ q
 
   declined-long : (u : Run Finished) → rest o t ≡ u → ((p : Point) (w : Which) (k : Reply → Run Finished) → u ≡ ask p w k → wants (sizesFor o) w ≤ 64)
       → (es : List Entry) → 65 < length es
@@ -112,7 +113,7 @@ module _ (o : Opening) (t : At) where
     where
       no : (fs : List Entry) → 64 < length fs → stance o t (replyOf fs) ≡ declines 9
       no fs g =
-          ap (λ (u : Run Finished). takingReply (sizesFor o) u (map dropOf fs) (map isMissing fs)) e
+          ap (λ (u : Run Finished). takingReply (sizesFor o) u (map dropOr0 fs) (map isMissing fs)) e
           ∙ ap (λ (b : Bool). cond b takes (declines 9)) (wrong-length (wants (sizesFor o) w) fs (let f = h p w k refl in omega arith))
 
 reply-kept : (s : Session) (u : Conversation) → Stands s (u .opening) (u .at) → (es : List Entry) → calls u (replyOf (take 65 es)) ≡ calls u (replyOf es)

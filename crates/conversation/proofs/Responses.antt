@@ -26,8 +26,8 @@ use Rattle.editing.specs.declared.Session.{Session}
 use Rattle.editing.specs.declared.Answer.{Answer as Given}
 use Rattle.demands.specs.Calls.{Call, reply, first, finishedAt, reportBy, after, dueTo}
 use Rattle.demands.specs.Demands.{Meets, count}
-use Rattle.lines.specs.Lines.{Entry, missing, given, Form}
-use Rattle.lines.specs.Reading.{entryAt, zipEntries, entriesIn, formIn, formSays}
+use Rattle.lines.specs.Lines.{Form}
+use Rattle.lines.specs.Reading.{entriesIn, formIn, formSays}
 use Rattle.lines.specs.declared.Line.{Line}
 use Rattle.lines.specs.declared.ReadForm.{ReadForm}
 use Rattle.report_text.proofs.Writing as writing
@@ -38,7 +38,7 @@ use Rattle.answer_text.specs.Answers as answers
 use Rattle.answer_text.specs.Answers.{saidText, line}
 use Rattle.answer_text.proofs.Fits.{answer-fits}
 use Rattle.conversation.specs.Conversation.{Conversation, Answer, malformedAt, Answered, answerText, malformedLine, collected, inPlace, opens, calls}
-use Rattle.conversation.specs.Conversation.{dropOf, isMissing, replyOf, nextLine, answerTo}
+use Rattle.conversation.specs.Conversation.{replyOf, nextLine, answerTo}
 use Rattle.requests.specs.Kept.{kept, openingIn, Keeps}
 use Rattle.conversation.specs.Tracks.{Stands, Tracks, responseSays, responseText, Responds, Fills}
 use Rattle.conversation.specs.declared.Section.{Section}
@@ -145,18 +145,18 @@ fills {out} {after} {n} {text} h w =
 
 -- ---- a reply's entries, in two lists and in one
 
-same-entries : (ds : List Float) (ms : List Bool) → arrays.entriesOf (map dropOf (zipEntries ds ms)) (map isMissing (zipEntries ds ms)) ≡ arrays.entriesOf ds ms
+same-entries : (ds : List Float) (ms : List Bool) → arrays.entriesOf (map run.dropOr0 (arrays.entriesOf ds ms)) (map run.isMissing (arrays.entriesOf ds ms)) ≡ arrays.entriesOf ds ms
 same-entries [] ms = refl
 same-entries (d ∷ ds) [] = refl
 same-entries (d ∷ ds) (true ∷ ms) = ap (λ (l : List run.Entry). run.missing ∷ l) (same-entries ds ms)
 same-entries (d ∷ ds) (false ∷ ms) = ap (λ (l : List run.Entry). run.drop d ∷ l) (same-entries ds ms)
 
-same-drops : (ds : List Float) (ms : List Bool) → length ms ≡ length ds → length (map dropOf (zipEntries ds ms)) ≡ length ds
+same-drops : (ds : List Float) (ms : List Bool) → length ms ≡ length ds → length (map run.dropOr0 (arrays.entriesOf ds ms)) ≡ length ds
 same-drops [] ms e = refl
 same-drops (d ∷ ds) [] e = absurd (omega arith)
 same-drops (d ∷ ds) (m ∷ ms) e = ap suc (same-drops ds ms (omega arith))
 
-same-flags : (ds : List Float) (ms : List Bool) → length ms ≡ length ds → length (map isMissing (zipEntries ds ms)) ≡ length ms
+same-flags : (ds : List Float) (ms : List Bool) → length ms ≡ length ds → length (map run.isMissing (arrays.entriesOf ds ms)) ≡ length ms
 same-flags [] [] e = refl
 same-flags [] (m ∷ ms) e = absurd (omega arith)
 same-flags (d ∷ ds) [] e = absurd (omega arith)
@@ -178,10 +178,10 @@ replied-by (asking kept (ask p w k)) s ds es ms ns a e f g d =
 
 -- the call that the line makes is met where that of the arrays is
 pub replied-same :
-    (s : Session) (ds : List Float) (ms : List Bool) (a : Given) → length ms ≡ length ds → Replied s ds ms a → Meets (replyOf (zipEntries ds ms)) s a
+    (s : Session) (ds : List Float) (ms : List Bool) (a : Given) → length ms ≡ length ds → Replied s ds ms a → Meets (replyOf (arrays.entriesOf ds ms)) s a
 replied-same s ds ms a e d =
     record {
-      is = replied-by (state s) s ds (map dropOf (zipEntries ds ms)) ms (map isMissing (zipEntries ds ms)) a (same-drops ds ms e) (same-flags ds ms e)
+      is = replied-by (state s) s ds (map run.dropOr0 (arrays.entriesOf ds ms)) ms (map run.isMissing (arrays.entriesOf ds ms)) a (same-drops ds ms e) (same-flags ds ms e)
           (same-entries ds ms) (d .is);
     }
 

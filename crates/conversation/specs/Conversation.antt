@@ -1,18 +1,19 @@
 -- The line protocol between two lines: where a conversation stands, and what a line's form does to it and gets for an answer. It reads beside docs/PROTOCOL.md. What is said
--- to a call on the session, and where it stands then, are `dueTo` and `after` (demands); the texts are those of `texts` and `answers`.
+-- to a call on the session, and where it stands then, are `dueTo` and `after` (demands); the texts are those of `report_text` and `answer_text`.
 use Prim.Native.Nat.{ℕ}
 use mathlib.Core.Bool.{Bool, true, false}
 use mathlib.Core.List.{List, [], _∷_, _++_, map}
 use lib.Ieee.{Float}
 use Rattle.numeric.specs.Numeric.{zero64}
 use Rattle.definition.specs.Request.{Opening}
+use Rattle.definition.specs.Run.{Entry, dropOr0, isMissing}
 use Rattle.definition.specs.Laws.{put}
 use Rattle.definition.specs.Whole as edits
 use Rattle.definition.specs.Whole.{whole}
 use Rattle.definition.specs.Session.{head, moreOf}
 use Rattle.definition.specs.declared.Step.{Step}
 use Rattle.demands.specs.Calls.{Call, reply, refusePoint, change, At, first, finishedAt, reportBy, after, dueTo}
-use Rattle.lines.specs.Lines.{Entry, missing, given, Form, malformed, entered, shot, priorSpeed, priorCoefficient, distance, openPlain, drops, refused, putIn, takeOut, exchange, asked}
+use Rattle.lines.specs.Lines.{Form, malformed, entered, shot, priorSpeed, priorCoefficient, distance, openPlain, drops, refused, putIn, takeOut, exchange, asked}
 use Rattle.report_text.specs.Writing.{Text}
 use Rattle.report_text.specs.Texts.{askedText, malformedText}
 use Rattle.answer_text.specs.Answers.{saidText, line}
@@ -103,17 +104,9 @@ abbrev pub calls : Conversation → Call → Answered
 calls t x =
     (record { lines = t .lines; section = t .section; request = t .request; opening = t .opening; at = after (t .opening) (t .at) x }, says (dueTo (t .opening) (t .at) x))
 
--- a missing entry's drop is not looked at
-abbrev pub dropOf : Entry → Float
-dropOf missing = zero64
-dropOf (given x) = x
-
-abbrev pub isMissing : Entry → Bool
-isMissing missing = true
-isMissing (given x) = false
-
+-- the entries as drops and flags; a missing entry's drop is not looked at
 abbrev pub replyOf : List Entry → Call
-replyOf es = reply (map dropOf es) (map isMissing es)
+replyOf es = reply (map dropOr0 es) (map isMissing es)
 
 -- the line is read in its number and place
 unfoldable pub answerTo : Conversation → Form → Answered

@@ -1,26 +1,24 @@
 // The line protocol as steps: a line of the host leads to the conversation after it, and its answer is written into a lent buffer.
+use definition::Number;
 use definition::Point;
 use definition::Step;
 use editing::Answer;
 use editing::Session;
 use lines::Line;
 use lines::ReadForm;
-use lines::Sigma;
 use requests::Request;
 ghost use Rattle.definition.specs.Request.{Opening};
-ghost use Rattle.definition.specs.Whole as edits;
+ghost use Rattle.definition.specs.Meaning.{numberOf};
 ghost use mathlib.Core.Path.{_≡_};
 ghost use Rattle.report.specs.Reading.{reportIn};
 ghost use Rattle.editing.specs.Meaning.{state, seen};
-ghost use Rattle.definition.specs.Session.{Edited};
 ghost use Rattle.demands.specs.Calls.{Call};
 ghost use Rattle.demands.specs.Demands.{Meets};
 ghost use Rattle.lines.specs.Lines.{entered, shot, priorSpeed, priorCoefficient, distance, openPlain, drops, refused, putIn, takeOut, exchange, asked};
-ghost use Rattle.lines.specs.Reading.{sigmaSays, entriesIn, formIn};
+ghost use Rattle.lines.specs.Reading.{entriesIn, formIn};
 ghost use Rattle.report_text.specs.Writing.{Writes};
 ghost use Rattle.report_text.specs.Texts.{askedText, malformedText};
 ghost use Rattle.answer_text.specs.Answers.{saidText, line};
-ghost use Rattle.requests.specs.Request.{requestedAt};
 ghost use Rattle.requests.specs.Kept.{Keeps};
 ghost use Rattle.conversation.specs.Conversation as defined;
 ghost use Rattle.conversation.specs.Conversation.{takesShot, takesCoefficient, takesDistance, malformedLine, calls, answerTo, nextLine, initial};
@@ -180,8 +178,8 @@ fn take_coefficient_prior(t: Conversation, mean: f64, sigma: f64) -> Responded
     )
 }
 
-fn take_distance(t: Conversation, range: f64, sigma: Sigma) -> Responded
-    ensures { λ r. ⌜ ((u : defined.Conversation) → Tracks t u → Responds r (answerTo u (distance range (sigmaSays sigma)))) ⌝ }
+fn take_distance(t: Conversation, range: f64, sigma: Number) -> Responded
+    ensures { λ r. ⌜ ((u : defined.Conversation) → Tracks t u → Responds r (answerTo u (distance range (numberOf sigma)))) ⌝ }
 {
     let section = t.section;
     if !is_collecting(section) {
@@ -240,20 +238,11 @@ fn take_refused(t: Conversation) -> Responded
     after_call(t, a)
 }
 
-fn put_in(s: Session, place: u64, range: f64, sigma: Sigma) -> Answer
-    ensures { λ a. ⌜ Edited seen s (edits.putIn place (requestedAt range (sigmaSays sigma))) (a .step) (a .session) ⌝ }
-{
-    match sigma {
-        Sigma::Absent => editing::put_in(s, place as usize, range, 0.0, false),
-        Sigma::Given(x) => editing::put_in(s, place as usize, range, x, true),
-    }
-}
-
-fn take_put_in(t: Conversation, place: u64, range: f64, sigma: Sigma) -> Responded
-    ensures { λ r. ⌜ ((u : defined.Conversation) → Tracks t u → Responds r (answerTo u (putIn place range (sigmaSays sigma)))) ⌝ }
+fn take_put_in(t: Conversation, place: u64, range: f64, sigma: Number) -> Responded
+    ensures { λ r. ⌜ ((u : defined.Conversation) → Tracks t u → Responds r (answerTo u (putIn place range (numberOf sigma)))) ⌝ }
 {
     let s = t.session;
-    let a = put_in(s, place, range, sigma);
+    let a = editing::put_in(s, place as usize, range, sigma);
     after_call(t, a)
 }
 
@@ -265,20 +254,11 @@ fn take_take_out(t: Conversation, place: u64) -> Responded
     after_call(t, a)
 }
 
-fn exchange(s: Session, place: u64, range: f64, sigma: Sigma) -> Answer
-    ensures { λ a. ⌜ Edited seen s (edits.exchange place (requestedAt range (sigmaSays sigma))) (a .step) (a .session) ⌝ }
-{
-    match sigma {
-        Sigma::Absent => editing::exchange(s, place as usize, range, 0.0, false),
-        Sigma::Given(x) => editing::exchange(s, place as usize, range, x, true),
-    }
-}
-
-fn take_exchange(t: Conversation, place: u64, range: f64, sigma: Sigma) -> Responded
-    ensures { λ r. ⌜ ((u : defined.Conversation) → Tracks t u → Responds r (answerTo u (exchange place range (sigmaSays sigma)))) ⌝ }
+fn take_exchange(t: Conversation, place: u64, range: f64, sigma: Number) -> Responded
+    ensures { λ r. ⌜ ((u : defined.Conversation) → Tracks t u → Responds r (answerTo u (exchange place range (numberOf sigma)))) ⌝ }
 {
     let s = t.session;
-    let a = exchange(s, place, range, sigma);
+    let a = editing::exchange(s, place as usize, range, sigma);
     after_call(t, a)
 }
 

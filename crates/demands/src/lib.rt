@@ -1,5 +1,6 @@
 // Every call of a host with its whole promise: what each ensures is what the three demands assume of it (specs/Demands.antt), so that a contract
 // of `editing` which says less is refused here. Nothing is decided in this file.
+use definition::Number;
 use definition::Point;
 use definition::TruingPriorsV1;
 use editing::Answer;
@@ -8,8 +9,9 @@ use report::BandAt;
 use report::ResultAt;
 use report::Shown;
 ghost use mathlib.Core.Path.{_≡_};
+ghost use Rattle.definition.specs.Meaning.{requestedOf};
 ghost use Rattle.definition.specs.Whole as Edit;
-ghost use Rattle.opening.specs.Opening.{openingOf, wantedAt};
+ghost use Rattle.opening.specs.Opening.{openingOf};
 ghost use Rattle.editing.specs.Meaning.{state, seen};
 ghost use Rattle.definition.specs.Session.{Opened};
 ghost use Rattle.report.specs.Reading.{ReportRead, ResultRead, BaselineResultRead, BandRead};
@@ -54,10 +56,10 @@ pub fn refuse(s: Session) -> Answer
     editing::refuse(s)
 }
 
-pub fn put_in(s: Session, place: usize, range: f64, sigma: f64, given: bool) -> Answer
-    ensures { λ r. ⌜ Meets (Call.change (Edit.putIn place (wantedAt range sigma given))) s r ⌝ }
+pub fn put_in(s: Session, place: usize, range: f64, sigma: Number) -> Answer
+    ensures { λ r. ⌜ Meets (Call.change (Edit.putIn place (requestedOf range sigma))) s r ⌝ }
 {
-    editing::put_in(s, place, range, sigma, given)
+    editing::put_in(s, place, range, sigma)
 }
 
 pub fn take_out(s: Session, place: usize) -> Answer
@@ -66,10 +68,10 @@ pub fn take_out(s: Session, place: usize) -> Answer
     editing::take_out(s, place)
 }
 
-pub fn exchange(s: Session, place: usize, range: f64, sigma: f64, given: bool) -> Answer
-    ensures { λ r. ⌜ Meets (Call.change (Edit.exchange place (wantedAt range sigma given))) s r ⌝ }
+pub fn exchange(s: Session, place: usize, range: f64, sigma: Number) -> Answer
+    ensures { λ r. ⌜ Meets (Call.change (Edit.exchange place (requestedOf range sigma))) s r ⌝ }
 {
-    editing::exchange(s, place, range, sigma, given)
+    editing::exchange(s, place, range, sigma)
 }
 
 // ---- reading

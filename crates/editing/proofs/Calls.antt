@@ -16,6 +16,8 @@ use Rattle.definition.specs.Lists.{firstOf}
 use Rattle.definition.specs.Summary.{Finished}
 use Rattle.definition.specs.Whole.{Edit, putIn, takeOut, exchange, placed, renewed, noRows, soundRequestedOf}
 use Rattle.definition.specs.Whole as whole
+use Rattle.definition.specs.Meaning.{requestedOf}
+use Rattle.definition.specs.declared.Number.{Number}
 use Rattle.definition.specs.declared.Point.{Point}
 use Rattle.definition.specs.Session.{entriesOf}
 use Rattle.report.specs.Places.{requestedAt}
@@ -28,12 +30,11 @@ use Rattle.session.specs.Meaning.{sizesOf}
 use Rattle.stencil.proofs.Laws.{one-next}
 use Rattle.session.specs.Meaning as run
 use Rattle.session.proofs.Laws.{right-lengths}
-use Rattle.opening.specs.Opening.{wantedAt}
-use Rattle.lists.specs.Lists.{sigmaOr0}
+use Rattle.lists.specs.Lists.{storedSigma}
 use Rattle.lists.specs.Changing.{editOf, rangeOf}
 use Rattle.lists.specs.declared.Change.{Change}
 use Rattle.lists.specs.declared.Change.the-variants.{PutIn, Exchange}
-use Rattle.lists.proofs.Arrays.{stored-sigma}
+use Rattle.lists.proofs.Arrays.{stored-number}
 use Rattle.session.specs.Changing.{fittedIn, fittedSays, Changed}
 use Rattle.report.specs.Reading.{Shows, placeIn, baselineResults, reportIn, ReportRead, ResultRead, BaselineResultRead, BandRead}
 use Rattle.session.specs.declared.Fitted.{Fitted}
@@ -298,28 +299,29 @@ module _ (s : Session) (f : Fitted) (says : fittedSays f ≡ fittedIn (state s))
     both a b e g = ap (λ (x : Bool). x && b) e ∙ g
 
     -- the new entry in the session is the one that was given
-    as-given : (range sigma : Float) (given : Bool) → soundRequestedOf (wantedAt range sigma given) ≡ true → requestedAt range (sigmaOr0 sigma given) ≡ wantedAt range sigma given
-    as-given range sigma given e =
-        ap (λ (x : Option Float). record { range = range; sigma = x }) (stored-sigma range sigma given (ap not e))
+    as-given : (range : Float) (sigma : Number) → soundRequestedOf (requestedOf range sigma) ≡ true → requestedAt range (storedSigma sigma) ≡ requestedOf range sigma
+    as-given range sigma e = ap (λ (x : Option Float). record { range = range; sigma = x }) (stored-number range sigma e)
 
-    pub begins-put : (place : ℕ) (range sigma x : Float) (given : Bool) (a : Answer) → x ≡ sigmaOr0 sigma given → placed (putIn place (wantedAt range sigma given)) n ≡ true → n < 64
-        → soundRequestedOf (wantedAt range sigma given) ≡ true → a ≡ askedAt (s .run) (newly (PutIn place range x)) p → Edited s (putIn place (wantedAt range sigma given)) a
+    pub begins-put : (place : ℕ) (range : Float) (sigma : Number) (x : Float) (a : Answer) → x ≡ storedSigma sigma
+        → placed (putIn place (requestedOf range sigma)) n ≡ true → n < 64 → soundRequestedOf (requestedOf range sigma) ≡ true
+        → a ≡ askedAt (s .run) (newly (PutIn place range x)) p → Edited s (putIn place (requestedOf range sigma)) a
     unfolding whole.asked
-    begins-put place range sigma x given a ex q h e d =
+    begins-put place range sigma x a ex q h e d =
         let c = there .of in
-        let w = wantedAt range sigma given in
+        let w = requestedOf range sigma in
         begins (putIn place w) (PutIn place range x) a q (both (placed (putIn place w) n) (ltb n 64 && true) q (both (ltb n 64) true (lt-ltb n 64 h) refl))
-        (ap (λ (y : Requested). whole.asked c (putIn place y) place y) (ap (requestedAt range) ex ∙ as-given range sigma given e) ∙ sym (put-sound place w h true e))
+        (ap (λ (y : Requested). whole.asked c (putIn place y) place y) (ap (requestedAt range) ex ∙ as-given range sigma e) ∙ sym (put-sound place w h true e))
         d
 
-    pub begins-exchange : (place : ℕ) (range sigma x : Float) (given : Bool) (a : Answer) → x ≡ sigmaOr0 sigma given → placed (exchange place (wantedAt range sigma given)) n ≡ true
-        → soundRequestedOf (wantedAt range sigma given) ≡ true → a ≡ askedAt (s .run) (newly (Exchange place range x)) p → Edited s (exchange place (wantedAt range sigma given)) a
+    pub begins-exchange : (place : ℕ) (range : Float) (sigma : Number) (x : Float) (a : Answer) → x ≡ storedSigma sigma
+        → placed (exchange place (requestedOf range sigma)) n ≡ true → soundRequestedOf (requestedOf range sigma) ≡ true
+        → a ≡ askedAt (s .run) (newly (Exchange place range x)) p → Edited s (exchange place (requestedOf range sigma)) a
     unfolding whole.asked
-    begins-exchange place range sigma x given a ex q e d =
+    begins-exchange place range sigma x a ex q e d =
         let c = there .of in
-        let w = wantedAt range sigma given in
+        let w = requestedOf range sigma in
         begins (exchange place w) (Exchange place range x) a q (both (placed (exchange place w) n) (true && true) q refl)
-        (ap (λ (y : Requested). whole.asked c (exchange place y) place y) (ap (requestedAt range) ex ∙ as-given range sigma given e) ∙ sym (exchange-sound place w true e))
+        (ap (λ (y : Requested). whole.asked c (exchange place y) place y) (ap (requestedAt range) ex ∙ as-given range sigma e) ∙ sym (exchange-sound place w true e))
         d
 
     -- taking out

@@ -1,6 +1,7 @@
 // A session whose requested distances can be edited once its run has ended. The run is a `session::Session`; an edit asks about its new distance alone and
 // then changes the list and the bands of the finished run, or leaves them as they were.
 use definition::Distances;
+use definition::Number;
 use definition::Point;
 use definition::Row;
 use definition::Step;
@@ -17,9 +18,10 @@ ghost use mathlib.Core.Option.{some};
 ghost use lib.ListN.{length};
 ghost use Rattle.definition.specs.Summary.{Finished};
 ghost use Rattle.definition.specs.Whole.{putIn, takeOut, exchange};
+ghost use Rattle.definition.specs.Meaning.{requestedOf};
 ghost use Rattle.definition.specs.Session.{standing, Stands, Declines, Opened, Replied, PointRefused, Edited};
 ghost use Rattle.stencil.specs.Stencil.{oneRows};
-ghost use Rattle.opening.specs.Opening.{wantedAt, openingOf};
+ghost use Rattle.opening.specs.Opening.{openingOf};
 ghost use Rattle.lists.specs.Changing.{editOf};
 ghost use Rattle.report.specs.Reading.{ReportRead, ResultRead, BaselineResultRead, BandRead};
 ghost use Rattle.session.specs.Meaning as running;
@@ -305,22 +307,22 @@ fn begin(run: session::Session, change: Change, p: Point) -> Answer
     asks(run, asking, p)
 }
 
-// A requested distance, with its sigma if one is given, is put in at a place; later ones move up.
-pub fn put_in(s: Session, place: usize, range: f64, sigma: f64, given: bool) -> Answer
-    ensures { λ r. ⌜ Edited seen s (putIn place (wantedAt range sigma given)) (r .step) (r .session) ⌝ }
+// A requested distance, with the sigma of a future observation or none, is put in at a place; later ones move up.
+pub fn put_in(s: Session, place: usize, range: f64, sigma: Number) -> Answer
+    ensures { λ r. ⌜ Edited seen s (putIn place (requestedOf range sigma)) (r .step) (r .session) ⌝ }
 {
     let run = s.run;
     match standing(s) {
         Fitted::Unfitted => declined(s, 14),
         Fitted::FittedAt(p, n) => {
-            let change = Change::PutIn(place, range, lists::sigma_or_0(sigma, given));
+            let change = Change::PutIn(place, range, lists::stored_sigma(sigma));
             if !lists::is_placed(change, n) {
                 return declined(s, 15);
             }
             if n >= 64 {
                 return closed_with(run, Step::Refused(6, 0));
             }
-            if !opening::is_sound_wanted(range, sigma, given) {
+            if !opening::is_sound_requested(range, sigma) {
                 return closed_with(run, Step::Refused(7, place));
             }
             begin(run, change, p)
@@ -352,18 +354,18 @@ pub fn take_out(s: Session, place: usize) -> Answer
 }
 
 // The requested distance at a place is exchanged for another.
-pub fn exchange(s: Session, place: usize, range: f64, sigma: f64, given: bool) -> Answer
-    ensures { λ r. ⌜ Edited seen s (exchange place (wantedAt range sigma given)) (r .step) (r .session) ⌝ }
+pub fn exchange(s: Session, place: usize, range: f64, sigma: Number) -> Answer
+    ensures { λ r. ⌜ Edited seen s (exchange place (requestedOf range sigma)) (r .step) (r .session) ⌝ }
 {
     let run = s.run;
     match standing(s) {
         Fitted::Unfitted => declined(s, 14),
         Fitted::FittedAt(p, n) => {
-            let change = Change::Exchange(place, range, lists::sigma_or_0(sigma, given));
+            let change = Change::Exchange(place, range, lists::stored_sigma(sigma));
             if !lists::is_placed(change, n) {
                 return declined(s, 15);
             }
-            if !opening::is_sound_wanted(range, sigma, given) {
+            if !opening::is_sound_requested(range, sigma) {
                 return closed_with(run, Step::Refused(7, place));
             }
             begin(run, change, p)

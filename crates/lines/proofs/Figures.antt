@@ -3,9 +3,10 @@ use mathlib.Core.Path.{_≡_, refl}
 use mathlib.Core.List.{[], _∷_}
 use mathlib.Core.Option.{none, some}
 use lib.Ieee.{Float, nan, binary64, ofBits}
+use Rattle.definition.specs.Run.{missing, drop}
 use Rattle.numerals.specs.Numbers.{digitOf, glyphOf, doubleOf, countOf, countText}
 use Rattle.words.specs.Words.{bytes}
-use Rattle.lines.specs.Lines.{malformed, entered, priorCoefficient, distance, openPlain, drops, missing, given, refused, exchange, enteredOf, priorOf}
+use Rattle.lines.specs.Lines.{malformed, entered, priorCoefficient, distance, openPlain, drops, refused, exchange, enteredOf, priorOf}
 use Rattle.lines.specs.Lines.{distanceOf, exchangeOf, takeOutOf, formOf}
 
 abbrev one : Float
@@ -55,7 +56,7 @@ no-entries : formOf (bytes "(drops)") ≡ drops []
 unfolding formOf
 no-entries = refl
 
-two-entries : formOf (bytes "(drops missing 3ff0000000000000)") ≡ drops (missing ∷ given one ∷ [])
+two-entries : formOf (bytes "(drops missing 3ff0000000000000)") ≡ drops (missing ∷ drop one ∷ [])
 unfolding formOf doubleOf digitOf
 two-entries = refl
 

@@ -9,10 +9,11 @@ use native.Mathlib.Omega.{arith}
 use borrow.Author.Tests.{ltb-true}
 use lib.Dec.{ltb}
 use lib.ListN.{length}
+use Rattle.definition.specs.Run.{Entry}
 use Rattle.words.specs.Words.{bytes, is}
 use Rattle.words.proofs.Rule.{same-length}
 use Rattle.numerals.specs.Numbers.{doubleOf, countOf}
-use Rattle.lines.specs.Lines.{Entry, Form, malformed, ifRead, sigmaOf, entryOf, inFront, entriesOf, enteredOf, shotOf, priorOf, distanceOf, putInOf}
+use Rattle.lines.specs.Lines.{Form, malformed, ifRead, sigmaOf, entryRead, inFront, entriesRead, enteredOf, shotOf, priorOf, distanceOf, putInOf}
 use Rattle.lines.specs.Lines.{exchangeOf, takeOutOf, dropsOf, with0, with1, with2, with3, formOfWords}
 use Rattle.numerals.proofs.Numbers.{no-double, long-count}
 
@@ -41,7 +42,7 @@ module _ (s : List ℕ) (t : long s ≡ true) where
   pub long-sigma : sigmaOf s ≡ none
   long-sigma = rw (long-double, long-other "none" (omega arith))
 
-  pub long-entry : entryOf s ≡ none
+  pub long-entry : entryRead s ≡ none
   long-entry = rw (long-double, long-other "missing" (omega arith))
 
 -- ---- what every form of a kind has
@@ -102,10 +103,10 @@ by-first : (v : Bool) {x y : Form} → x ≡ malformed → y ≡ malformed → c
 by-first true p q = p
 by-first false p q = q
 
-entries-bad : (ws : List (List ℕ)) → anyLong ws ≡ true → entriesOf ws ≡ none
+entries-bad : (ws : List (List ℕ)) → anyLong ws ≡ true → entriesRead ws ≡ none
 entries-bad [] e = absurd (true≢false (sym e))
 entries-bad (w ∷ ws) e =
-    either (long w) (anyLong ws) (λ t. rw (long-entry w t)) (λ t. rw (entries-bad ws t) (front-none (entryOf w))) e where
+    either (long w) (anyLong ws) (λ t. rw (long-entry w t)) (λ t. rw (entries-bad ws t) (front-none (entryRead w))) e where
       front-none : (o : Option Entry) → inFront o none ≡ none
       front-none none = refl
       front-none (some d) = refl

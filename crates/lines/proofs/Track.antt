@@ -12,6 +12,8 @@ use lib.Dec.{ltb, leb, eqb, eqb·suc-zero, eqb·suc-suc}
 use lib.ListN.{length, take, getD, set, length-append, length-set}
 use lib.Seq.{take-all, take-suc-set, take-append-le, length-take-le}
 use lib.Ieee.{Float, binary64, ofBits}
+use Rattle.definition.specs.Run.{Entry, missing, drop}
+use Rattle.definition.specs.Session.{entryOf, entriesOf}
 use Rattle.words.specs.Words.{is, words, placeOf, place}
 use Rattle.words.proofs.Rule.{named}
 use Rattle.lines.specs.declared.Reading.{Reading}
@@ -20,9 +22,6 @@ use Rattle.lines.specs.declared.Reply.{Reply}
 use Rattle.lines.specs.declared.Line.{Line}
 use Rattle.numerals.specs.Numbers.{doubleOf, countOf, saysDouble, saysCount}
 use Rattle.lines.specs.Lines.{
-  Entry,
-  missing,
-  given,
   Form,
   malformed,
   drops,
@@ -31,9 +30,9 @@ use Rattle.lines.specs.Lines.{
   ifRead,
   sigmaOf,
   entryFrom,
-  entryOf,
+  entryRead,
   inFront,
-  entriesOf,
+  entriesRead,
   enteredOf,
   shotOf,
   priorBy,
@@ -50,7 +49,7 @@ use Rattle.lines.specs.Lines.{
   with3,
   formOfWords,
 }
-use Rattle.lines.specs.Reading.{entryAt, zipEntries, entriesIn, asDouble, asCount, readingOf, blank, startOf, withFieldOf, pushOf, withEntryOf}
+use Rattle.lines.specs.Reading.{entriesIn, asDouble, asCount, readingOf, blank, startOf, withFieldOf, pushOf, withEntryOf}
 use Rattle.lines.specs.Reading.{feedOf, doubleIn, countIn, sigmaIn, enteredIn, shotIn, priorIn, distanceIn, openIn, putInIn, exchangeIn, takeOutIn}
 use Rattle.lines.specs.Reading.{dropsIn, aloneIn, namedIn, formIn, short}
 use Rattle.lines.proofs.Steps.{field-0, field-1, field-2, field-3, field-4, push-full, push-room, feed-long, feed-first, feed-next}
@@ -59,11 +58,11 @@ use Rattle.lines.proofs.Long.{long, anyLong, all-0, all-1, all-2, all-3
 -- ---- entries
 
 zip-snoc : (xs : List Float) (ms : List Bool) (x : Float) (m : Bool) → length xs ≡ length ms
-    → zipEntries (xs ++ x ∷ []) (ms ++ m ∷ []) ≡ zipEntries xs ms ++ entryAt x m ∷ []
+    → entriesOf (xs ++ x ∷ []) (ms ++ m ∷ []) ≡ entriesOf xs ms ++ entryOf x m ∷ []
 zip-snoc [] [] x m e = refl
 zip-snoc [] (n ∷ ms) x m e = absurd (omega arith)
 zip-snoc (y ∷ xs) [] x m e = absurd (omega arith)
-zip-snoc (y ∷ xs) (n ∷ ms) x m e = ap (λ (r : List Entry). entryAt y n ∷ r) (zip-snoc xs ms x m (omega arith))
+zip-snoc (y ∷ xs) (n ∷ ms) x m e = ap (λ (r : List Entry). entryOf y n ∷ r) (zip-snoc xs ms x m (omega arith))
 
 -- a reply holds these entries
 record Kept (r : Reply) (es : List Entry) : Type 0 where
@@ -72,21 +71,21 @@ record Kept (r : Reply) (es : List Entry) : Type 0 where
   count : r .n ≡ length es
   entries : entriesIn r ≡ es
 
-push-kept : (r : Reply) (es : List Entry) (x : Float) (m : Bool) → length es < 65 → Kept r es → Kept (pushOf r x m) (es ++ entryAt x m ∷ [])
+push-kept : (r : Reply) (es : List Entry) (x : Float) (m : Bool) → length es < 65 → Kept r es → Kept (pushOf r x m) (es ++ entryOf x m ∷ [])
 push-kept r es x m h k =
     let n = r .n in
     let a : n < length (r .drops) = omega (arith, k .wide, k .count) in
     let b : n < length (r .missing) = omega (arith, k .flags, k .count) in
     let same : length (take n (r .drops)) ≡ length (take n (r .missing)) =
     length-take-le n (r .drops) (omega arith) ∙ sym (length-take-le n (r .missing) (omega arith)) in
-    subst (λ (q : Reply). Kept q (es ++ entryAt x m ∷ [])) (push-room r x m (omega (arith, k .count)))
+    subst (λ (q : Reply). Kept q (es ++ entryOf x m ∷ [])) (push-room r x m (omega (arith, k .count)))
     (record {
       wide = length-set (r .drops) n x ∙ k .wide;
       flags = length-set (r .missing) n m ∙ k .flags;
-      count = rw (length-append es (entryAt x m ∷ []), k .count) refl;
+      count = rw (length-append es (entryOf x m ∷ []), k .count) refl;
       entries =
           rw (add-one n, take-suc-set (r .drops) n x a, take-suc-set (r .missing) n m b, zip-snoc (take n (r .drops)) (take n (r .missing)) x m same)
-          (ap (λ (l : List Entry). l ++ entryAt x m ∷ []) (k .entries));
+          (ap (λ (l : List Entry). l ++ entryOf x m ∷ []) (k .entries));
     })
 
 -- what a reply holds of entries of which all may be read, or one not
@@ -104,19 +103,19 @@ push-sound r x m = by (leb 65 (r .n)) where
   by true = refl
   by false = refl
 
-push-holds : (r : Reply) (es : List Entry) (x : Float) (m : Bool) → Holds r (some es) → Holds (pushOf r x m) (some (es ++ entryAt x m ∷ []))
+push-holds : (r : Reply) (es : List Entry) (x : Float) (m : Bool) → Holds r (some es) → Holds (pushOf r x m) (some (es ++ entryOf x m ∷ []))
 push-holds r es x m k = (push-sound r x m ∙ k .0, by (ltb (length es) 65) refl) where
-  by : (v : Bool) → ltb (length es) 65 ≡ v → Kept (pushOf r x m) (take 65 (es ++ entryAt x m ∷ []))
+  by : (v : Bool) → ltb (length es) 65 ≡ v → Kept (pushOf r x m) (take 65 (es ++ entryOf x m ∷ []))
   by true e =
       let h = ltb-true (length es) 65 e in
       let here : take 65 es ≡ es = take-all 65 es (omega arith) in
-      let there : take 65 (es ++ entryAt x m ∷ []) ≡ es ++ entryAt x m ∷ [] =
-      take-all 65 (es ++ entryAt x m ∷ []) (omega (arith, length-append es (entryAt x m ∷ []))) in
+      let there : take 65 (es ++ entryOf x m ∷ []) ≡ es ++ entryOf x m ∷ [] =
+      take-all 65 (es ++ entryOf x m ∷ []) (omega (arith, length-append es (entryOf x m ∷ []))) in
       subst (Kept (pushOf r x m)) (sym there) (push-kept r es x m h (subst (Kept r) here (k .1)))
   by false e =
       let h = ltb-false (length es) 65 e in
-      let there : take 65 es ≡ take 65 (es ++ entryAt x m ∷ []) = sym (take-append-le 65 es (entryAt x m ∷ []) h) in
-      subst (λ (q : Reply). Kept q (take 65 (es ++ entryAt x m ∷ []))) (push-full r x m (omega (arith, k .1 .count, length-take-le 65 es h)))
+      let there : take 65 es ≡ take 65 (es ++ entryOf x m ∷ []) = sym (take-append-le 65 es (entryOf x m ∷ []) h) in
+      subst (λ (q : Reply). Kept q (take 65 (es ++ entryOf x m ∷ []))) (push-full r x m (omega (arith, k .1 .count, length-take-le 65 es h)))
       (subst (Kept r) there (k .1))
 
 abbrev behind : Option (List Entry) → Option Entry → Option (List Entry)
@@ -127,10 +126,10 @@ behind (some es) (some e) = some (es ++ e ∷ [])
 entry-holds : (r : Reply) (o : Option (List Entry)) (e : Option Entry) → Holds r o → Holds (withEntryOf r e) (behind o e)
 entry-holds r none none k = refl
 entry-holds r none (some missing) k = push-sound r (ofBits binary64 0) true ∙ k
-entry-holds r none (some (given x)) k = push-sound r x false ∙ k
+entry-holds r none (some (drop x)) k = push-sound r x false ∙ k
 entry-holds r (some es) none k = refl
 entry-holds r (some es) (some missing) k = push-holds r es (ofBits binary64 0) true k
-entry-holds r (some es) (some (given x)) k = push-holds r es x false k
+entry-holds r (some es) (some (drop x)) k = push-holds r es x false k
 
 front-behind : (d : Option Entry) (o : Option (List Entry)) (e : Option Entry) → inFront d (behind o e) ≡ behind (inFront d o) e
 front-behind none o e = refl
@@ -138,12 +137,12 @@ front-behind (some d) none e = refl
 front-behind (some d) (some es) none = refl
 front-behind (some d) (some es) (some e) = refl
 
-entries-snoc : (ws : List (List ℕ)) (s : List ℕ) → entriesOf (ws ++ s ∷ []) ≡ behind (entriesOf ws) (entryOf s)
-entries-snoc [] s = by (entryOf s) where
+entries-snoc : (ws : List (List ℕ)) (s : List ℕ) → entriesRead (ws ++ s ∷ []) ≡ behind (entriesRead ws) (entryRead s)
+entries-snoc [] s = by (entryRead s) where
   by : (e : Option Entry) → inFront e (some []) ≡ behind (some []) e
   by none = refl
   by (some e) = refl
-entries-snoc (w ∷ ws) s = ap (inFront (entryOf w)) (entries-snoc ws s) ∙ front-behind (entryOf w) (entriesOf ws) (entryOf s)
+entries-snoc (w ∷ ws) s = ap (inFront (entryRead w)) (entries-snoc ws s) ∙ front-behind (entryRead w) (entriesRead ws) (entryRead s)
 
 -- ---- fields
 
@@ -194,7 +193,7 @@ word-of : (w : String) → ltb (place w) (length words) ≡ true → (s : List �
 unfolding readingOf
 word-of w h s = named w h s
 
-entry-of : (s : List ℕ) → entryFrom (saysDouble (readingOf s .double)) (eqb (readingOf s .word) (place "missing")) ≡ entryOf s
+entry-of : (s : List ℕ) → entryFrom (saysDouble (readingOf s .double)) (eqb (readingOf s .word) (place "missing")) ≡ entryRead s
 entry-of s = rw (double-of s, word-of "missing" refl s)
 
 sigma-of : (s : List ℕ) → sigmaIn (readingOf s) ≡ sigmaOf s
@@ -203,7 +202,7 @@ sigma-of s = rw (double-of s, word-of "none" refl s)
 record Tracks (l : Line) (w : List ℕ) (ws : List (List ℕ)) : Type 0 where
   sound : l .sound ≡ true
   fields : Tells (l .fields) w ws
-  reply : Holds (l .reply) (entriesOf ws)
+  reply : Holds (l .reply) (entriesRead ws)
 
 feed-tracks : (l : Line) (w : List ℕ) (ws : List (List ℕ)) (s : List ℕ) → length s ≤ 20 → Tracks l w ws → Tracks (feedOf l s) w (ws ++ s ∷ [])
 feed-tracks l w ws s h t =
@@ -215,8 +214,8 @@ feed-tracks l w ws s h t =
       fields = field-tells (l .fields) w ws s (t .fields);
       reply =
           subst (Holds r) (sym (entries-snoc ws s))
-          (subst (λ (e : Option Entry). Holds r (behind (entriesOf ws) e)) (entry-of s)
-          (entry-holds (l .reply) (entriesOf ws) (entryFrom (saysDouble (readingOf s .double)) (eqb (readingOf s .word) (place "missing"))) (t .reply)));
+          (subst (λ (e : Option Entry). Holds r (behind (entriesRead ws) e)) (entry-of s)
+          (entry-holds (l .reply) (entriesRead ws) (entryFrom (saysDouble (readingOf s .double)) (eqb (readingOf s .word) (place "missing"))) (t .reply)));
     })
 
 no-word : blank ≡ readingOf []
@@ -382,14 +381,14 @@ module _ (f : Fields) (w : List ℕ) (ws : List (List ℕ)) (t : Tells f w ws) w
       tells-3 (λ x y z. exchangeOf (countIn x) (doubleIn y) (sigmaIn z)) _ (λ a b c. rw (count-of a, double-of b, sigma-of c))
       (λ a b c. whole-if (countOf a) _ (λ x. whole-if (doubleOf b) _ (λ y. whole-if (sigmaOf c) _ (λ z. refl))))
 
-  form-tells : (r : Reply) → Holds r (entriesOf ws) → Keeps (namedIn (entriesIn r) (r .sound) (readingOf w .word) f) (formOfWords (w ∷ ws))
+  form-tells : (r : Reply) → Holds r (entriesRead ws) → Keeps (namedIn (entriesIn r) (r .sound) (readingOf w .word) f) (formOfWords (w ∷ ws))
   form-tells r k =
       pick (word-of "entered" refl w) entered-tells
       (pick (word-of "shot" refl w) shot-tells
       (pick (word-of "prior" refl w) prior-tells
       (pick (word-of "distance" refl w) distance-tells
       (pick (word-of "open" refl w) open-tells
-      (pick (word-of "drops" refl w) (drops-tells r (entriesOf ws) k)
+      (pick (word-of "drops" refl w) (drops-tells r (entriesRead ws) k)
       (pick (word-of "refused" refl w) (tells-0 refused refl)
       (pick (word-of "put-in" refl w) put-in-tells
       (pick (word-of "take-out" refl w) take-out-tells

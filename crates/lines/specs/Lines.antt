@@ -5,13 +5,9 @@ use mathlib.Core.List.{List, [], _∷_}
 use mathlib.Core.Option.{Option, none, some}
 use lib.Dec.{eqb}
 use lib.Ieee.{Float}
+use Rattle.definition.specs.Run.{Entry, missing, drop}
 use Rattle.words.specs.Words.{is}
 use Rattle.numerals.specs.Numbers.{doubleOf, countOf}
-
--- an entry of a reply
-pub data Entry : Type 0 where
-  missing : Entry
-  given : Float → Entry
 
 -- what a line is. A sigma is an option: none is the word none.
 pub data Form : Type 0 where
@@ -48,13 +44,13 @@ sigmaOf w = sigmaFrom (doubleOf w) (is "none" w)
 
 -- an entry, of a word that is read as a double, and that may be the word missing
 abbrev pub entryFrom : Option Float → Bool → Option Entry
-entryFrom (some x) isMissing = some (given x)
+entryFrom (some x) isMissing = some (drop x)
 entryFrom none true = some missing
 entryFrom none false = none
 
 -- an entry: a double or the word missing
-abbrev pub entryOf : List ℕ → Option Entry
-entryOf w = entryFrom (doubleOf w) (is "missing" w)
+abbrev pub entryRead : List ℕ → Option Entry
+entryRead w = entryFrom (doubleOf w) (is "missing" w)
 
 -- an entry before others, where all are read
 abbrev pub inFront : Option Entry → Option (List Entry) → Option (List Entry)
@@ -63,9 +59,9 @@ inFront (some e) none = none
 inFront (some e) (some es) = some (e ∷ es)
 
 -- the entries that words are, where each of them is one
-abbrev pub entriesOf : List (List ℕ) → Option (List Entry)
-entriesOf [] = some []
-entriesOf (w ∷ ws) = inFront (entryOf w) (entriesOf ws)
+abbrev pub entriesRead : List (List ℕ) → Option (List Entry)
+entriesRead [] = some []
+entriesRead (w ∷ ws) = inFront (entryRead w) (entriesRead ws)
 
 -- ---- forms by their fields
 
@@ -141,7 +137,7 @@ formOfWords (w ∷ ws) =
     (cond (is "prior" w) (with3 (λ a b c. priorOf (is "speed" a) (is "coefficient" a) (doubleOf b) (doubleOf c)) ws)
     (cond (is "distance" w) (with2 (λ a b. distanceOf (doubleOf a) (sigmaOf b)) ws)
     (cond (is "open" w) (with1 (λ a. openOf (is "plain" a)) ws)
-    (cond (is "drops" w) (dropsOf (entriesOf ws))
+    (cond (is "drops" w) (dropsOf (entriesRead ws))
     (cond (is "refused" w) (with0 refused ws)
     (cond (is "put-in" w) (with3 (λ a b c. putInOf (countOf a) (doubleOf b) (sigmaOf c)) ws)
     (cond (is "take-out" w) (with1 (λ a. takeOutOf (countOf a)) ws)

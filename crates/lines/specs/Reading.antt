@@ -8,13 +8,14 @@ use mathlib.Core.Option.{Option, none, some}
 use lib.Dec.{leb, ltb, eqb}
 use lib.ListN.{length, take, set, replicate}
 use lib.Ieee.{Float, binary64, ofBits}
+use Rattle.definition.specs.Run.{Entry, missing, drop}
+use Rattle.definition.specs.Session.{entriesOf}
+use Rattle.definition.specs.Meaning.{numberOf}
 use Rattle.words.specs.Words.{words, placeOf, place}
 use Rattle.numerals.specs.declared.ReadDouble.{ReadDouble}
 use Rattle.numerals.specs.declared.ReadDouble.the-variants as readDouble
 use Rattle.numerals.specs.declared.ReadCount.{ReadCount}
 use Rattle.numerals.specs.declared.ReadCount.the-variants as readCount
-use Rattle.lines.specs.declared.Sigma.{Sigma}
-use Rattle.lines.specs.declared.Sigma.the-variants as sigma
 use Rattle.lines.specs.declared.ReadSigma.{ReadSigma}
 use Rattle.lines.specs.declared.ReadSigma.the-variants as readSigma
 use Rattle.lines.specs.declared.ReadEntry.{ReadEntry}
@@ -26,40 +27,24 @@ use Rattle.lines.specs.declared.Fields.{Fields}
 use Rattle.lines.specs.declared.Reply.{Reply}
 use Rattle.lines.specs.declared.Line.{Line}
 use Rattle.numerals.specs.Numbers.{doubleOf, countOf, saysDouble, saysCount}
-use Rattle.lines.specs.Lines.{Entry, missing, given, Form, malformed, entered, shot, priorSpeed, priorCoefficient, distance, openPlain, drops, refused, putIn, takeOut, exchange, asked, sigmaFrom, entryFrom, enteredOf, shotOf, priorOf, distanceOf, openOf, putInOf, exchangeOf, takeOutOf, afterOpen, beforeClose, wordsOf, formOf}
+use Rattle.lines.specs.Lines.{Form, malformed, entered, shot, priorSpeed, priorCoefficient, distance, openPlain, drops, refused, putIn, takeOut, exchange, asked, sigmaFrom, entryFrom, enteredOf, shotOf, priorOf, distanceOf, openOf, putInOf, exchangeOf, takeOutOf, afterOpen, beforeClose, wordsOf, formOf}
 
 -- ---- what the code's values say
-
--- the sigma that a code's sigma is
-abbrev pub sigmaSays : Sigma → Option Float
-sigmaSays sigma.Absent = none
-sigmaSays (sigma.Given x) = some x
 
 -- what the reading of a sigma says
 abbrev pub saysSigma : ReadSigma → Option (Option Float)
 saysSigma readSigma.Malformed = none
-saysSigma (readSigma.Read s) = some (sigmaSays s)
+saysSigma (readSigma.Read s) = some (numberOf s)
 
 -- what the reading of an entry says
 abbrev pub saysEntry : ReadEntry → Option Entry
 saysEntry readEntry.Malformed = none
 saysEntry readEntry.Missing = some missing
-saysEntry (readEntry.Given x) = some (given x)
-
--- an entry in two parts: missing where its flag is set
-abbrev pub entryAt : Float → Bool → Entry
-entryAt x true = missing
-entryAt x false = given x
-
--- entries in two lists, doubles and flags
-abbrev pub zipEntries : List Float → List Bool → List Entry
-zipEntries [] ms = []
-zipEntries (x ∷ xs) [] = []
-zipEntries (x ∷ xs) (m ∷ ms) = entryAt x m ∷ zipEntries xs ms
+saysEntry (readEntry.Given x) = some (drop x)
 
 -- the entries that a reply holds
 abbrev pub entriesIn : Reply → List Entry
-entriesIn r = zipEntries (take (r .n) (r .drops)) (take (r .n) (r .missing))
+entriesIn r = entriesOf (take (r .n) (r .drops)) (take (r .n) (r .missing))
 
 -- the form that an answer is, with the entries that stand beside it
 abbrev pub formSays : List Entry → ReadForm → Form
@@ -68,13 +53,13 @@ formSays es (readForm.Entered x y) = entered x y
 formSays es (readForm.Shot x y z) = shot x y z
 formSays es (readForm.PriorSpeed x y) = priorSpeed x y
 formSays es (readForm.PriorCoefficient x y) = priorCoefficient x y
-formSays es (readForm.Distance x s) = distance x (sigmaSays s)
+formSays es (readForm.Distance x s) = distance x (numberOf s)
 formSays es readForm.Open = openPlain
 formSays es readForm.Drops = drops es
 formSays es readForm.Refused = refused
-formSays es (readForm.PutIn k x s) = putIn k x (sigmaSays s)
+formSays es (readForm.PutIn k x s) = putIn k x (numberOf s)
 formSays es (readForm.TakeOut k) = takeOut k
-formSays es (readForm.Exchange k x s) = exchange k x (sigmaSays s)
+formSays es (readForm.Exchange k x s) = exchange k x (numberOf s)
 formSays es readForm.Asked = asked
 
 -- ---- a word read in each way
@@ -130,7 +115,7 @@ pushOf r x m =
 abbrev pub withEntryOf : Reply → Option Entry → Reply
 withEntryOf r none = record { drops = r .drops; missing = r .missing; n = r .n; sound = false }
 withEntryOf r (some missing) = pushOf r (ofBits binary64 0) true
-withEntryOf r (some (given x)) = pushOf r x false
+withEntryOf r (some (drop x)) = pushOf r x false
 
 -- one word more. No word of a form has more than 20 bytes.
 unfoldable pub feedOf : Line → List ℕ → Line

@@ -1,4 +1,5 @@
 // The lines that a host writes, read word by word in bounded memory: what a line is, is one of the protocol's forms.
+use definition::Number;
 use numerals::ReadCount;
 use numerals::ReadDouble;
 ghost use mathlib.Core.Path.{_≡_};
@@ -10,18 +11,13 @@ ghost use lib.ListN.{length, drop};
 ghost use lib.Ieee.{binary64, ofBits, toBits};
 ghost use Rattle.words.specs.Words.{place};
 ghost use Rattle.numerals.specs.Numbers.{digitOf, glyphOf, numberFrom, digitsOf, doubleOf, doubleText, saysDouble, within64, countOf, placesOf, countText, in20, saysCount};
-ghost use Rattle.lines.specs.Lines.{Entry, entryFrom, sigmaFrom, refused, asked, priorBy, openOf};
+ghost use Rattle.definition.specs.Run.{Entry};
+ghost use Rattle.lines.specs.Lines.{entryFrom, sigmaFrom, refused, asked, priorBy, openOf};
 ghost use Rattle.lines.specs.Reading.{readingOf, blank, startOf, spoiledOf, withFieldOf, pushOf, withEntryOf, saysEntry, feedOf, saysSigma, entriesIn, formSays, enteredIn, shotIn, priorIn, distanceIn, openIn, putInIn, exchangeIn, takeOutIn, aloneIn, dropsIn, sessionIn, namedIn, formIn, endOf, takeOf};
-
-// A sigma that is read.
-pub enum Sigma {
-    Absent,
-    Given(f64),
-}
 
 enum ReadSigma {
     Malformed,
-    Read(Sigma),
+    Read(Number),
 }
 
 enum ReadEntry {
@@ -37,13 +33,13 @@ pub enum ReadForm {
     Shot(f64, f64, f64),
     PriorSpeed(f64, f64),
     PriorCoefficient(f64, f64),
-    Distance(f64, Sigma),
+    Distance(f64, Number),
     Open,
     Drops,
     Refused,
-    PutIn(u64, f64, Sigma),
+    PutIn(u64, f64, Number),
     TakeOut(u64),
-    Exchange(u64, f64, Sigma),
+    Exchange(u64, f64, Number),
     Asked,
 }
 
@@ -245,7 +241,7 @@ fn absent_or(k: usize) -> ReadSigma
     ensures { λ r. ⌜ saysSigma r ≡ sigmaFrom none (eqb k (place "none")) ⌝ }
 {
     if k == words::NONE {
-        return ReadSigma::Read(Sigma::Absent);
+        return ReadSigma::Read(Number::Absent);
     }
     ReadSigma::Malformed
 }
@@ -254,7 +250,7 @@ fn sigma_in(d: ReadDouble, k: usize) -> ReadSigma
     ensures { λ r. ⌜ saysSigma r ≡ sigmaFrom (saysDouble d) (eqb k (place "none")) ⌝ }
 {
     match d {
-        ReadDouble::Double(x) => ReadSigma::Read(Sigma::Given(x)),
+        ReadDouble::Double(x) => ReadSigma::Read(Number::Given(x)),
         ReadDouble::Malformed => absent_or(k),
     }
 }

@@ -14,14 +14,17 @@ use Rattle.numeric.specs.Numeric.{zero64, finite}
 use Rattle.numeric.proofs.Order.{at-least}
 use Rattle.definition.specs.Lists.{firstAt, zipWith}
 use Rattle.definition.specs.Request.{Requested}
-use Rattle.definition.specs.Meaning.{observationOf, observationsOf}
+use Rattle.definition.specs.Meaning.{observationOf, observationsOf, numberOf}
+use Rattle.definition.specs.Meaning as definition
+use Rattle.definition.specs.declared.Number.{Number}
+use Rattle.definition.specs.declared.Number.the-variants.{Absent, Given}
 use Rattle.definition.specs.Whole.{positiveOf, soundRequestedOf, faultyRequested}
 use Rattle.slices.specs.Slices.{laidOver, shortestOf}
 use Rattle.likelihood.proofs.Laws.{over-suc, over-all, zip-length, zip-take, zip3-take, zip3-shortest, zip3-within, cond-none}
 use Rattle.opening.specs.Opening.{futureOf, wantedAt, requestedFrom}
 use Rattle.report.specs.Places.{sigmaOf, requestedAt}
 use lib.ListN.{length-take}
-use Rattle.lists.specs.Lists.{requestedOf, placesOf, sigmaOr0, shotsFrom, wantedFrom}
+use Rattle.lists.specs.Lists.{requestedOf, placesOf, sigmaOr0, storedSigma, shotsFrom, wantedFrom}
 use Rattle.lists.specs.declared.Wanted.{Wanted}
 
 -- ---- the arrays
@@ -93,6 +96,11 @@ stored-sigma range x false h = refl
 stored-sigma range x true h =
     let p = and-both (positiveOf range) (positiveOf x) (not-false (positiveOf range && positiveOf x) h) .1 in
     ap (λ (b : Bool). cond b (some x) none) (positive-above x p)
+
+-- the same of one that may be absent
+pub stored-number : (range : Float) (n : Number) → soundRequestedOf (definition.requestedOf range n) ≡ true → sigmaOf (storedSigma n) ≡ numberOf n
+stored-number range Absent e = stored-sigma range zero64 false (ap not e)
+stored-number range (Given x) e = stored-sigma range x true (ap not e)
 
 stored-requested : (ranges future : List Float) (given : List Bool) → firstAt faultyRequested (requestedFrom ranges future given) ≡ 0
     → zipWith requestedAt ranges (zipWith sigmaOr0 future given) ≡ requestedFrom ranges future given

@@ -9,6 +9,8 @@ use Rattle.numeric.specs.Numeric.{zero64}
 use Rattle.definition.specs.Lists.{zipWith}
 use Rattle.definition.specs.Meaning.{observationsOf}
 use Rattle.definition.specs.Request.{Observation, Requested}
+use Rattle.definition.specs.declared.Number.{Number}
+use Rattle.definition.specs.declared.Number.the-variants.{Absent, Given}
 use Rattle.slices.specs.Slices.{laidOver, shortestOf}
 use Rattle.report.specs.Places.{requestedAt}
 use Rattle.lists.specs.declared.Shots.{Shots}
@@ -37,6 +39,10 @@ placesOf xs = laidOver xs (replicate 64 zero64)
 abbrev pub sigmaOr0 : Float → Bool → Float
 sigmaOr0 x true = x
 sigmaOr0 x false = zero64
+
+abbrev pub storedSigma : Number → Float
+storedSigma Absent = zero64
+storedSigma (Given x) = x
 
 abbrev pub shotsFrom : List Float → List Float → List Float → Shots
 shotsFrom ranges drops sigmas =

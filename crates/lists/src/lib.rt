@@ -1,4 +1,5 @@
 // The observations and the requested distances of a run, each list in the first places of arrays of 64; and changes of the requested distances and of their rows.
+use definition::Number;
 use definition::Row;
 use stencil::StencilRows;
 ghost use mathlib.Core.Path.{_≡_};
@@ -7,7 +8,7 @@ ghost use lib.Dec.{T};
 ghost use lib.ListN.{take};
 ghost use Rattle.definition.specs.Lists.{zipWith};
 ghost use Rattle.definition.specs.Whole.{edited, editedNumbers, editedRows, placed};
-ghost use Rattle.lists.specs.Lists.{requestedOf, HasWanted, placesOf, sigmaOr0, shotsFrom, wantedFrom};
+ghost use Rattle.lists.specs.Lists.{requestedOf, HasWanted, placesOf, sigmaOr0, storedSigma, shotsFrom, wantedFrom};
 ghost use Rattle.lists.specs.Changing.{editOf, rangeOf, sigmaIn, sizeAfter, roomy, rowsFrom};
 ghost use Rattle.stencil.specs.Stencil.{rowsAt};
 
@@ -45,13 +46,23 @@ fn filled(s: &[f64]) -> [f64; 64]
 }
 
 // 0 in place of a sigma that is not given.
-pub fn sigma_or_0(sigma: f64, given: bool) -> f64
+fn sigma_or_0(sigma: f64, given: bool) -> f64
     ensures { λ r. ⌜ r ≡ sigmaOr0 sigma given ⌝ }
 {
     if given {
         return sigma;
     }
     0.0
+}
+
+// What is stored for a sigma that may be absent: 0 stands for none.
+pub fn stored_sigma(sigma: Number) -> f64
+    ensures { λ r. ⌜ r ≡ storedSigma sigma ⌝ }
+{
+    match sigma {
+        Number::Absent => 0.0,
+        Number::Given(x) => x,
+    }
 }
 
 // The sigmas in the first places of an array.

@@ -56,7 +56,7 @@ fn is_sound_sigma(sigma: Number) -> bool
     }
 }
 
-fn is_sound_requested(range: f64, sigma: Number) -> bool
+pub fn is_sound_requested(range: f64, sigma: Number) -> bool
     ensures { λ r. ⌜ r ≡ soundRequestedOf (requestedOf range sigma) ⌝ }
 {
     is_positive(range) & is_sound_sigma(sigma)
@@ -83,7 +83,7 @@ fn first_faulty_observation(ranges: &[f64], drops: &[f64], sigmas: &[f64]) -> us
 }
 
 // A sigma whose flag is not set is absent.
-pub fn is_sound_wanted(range: f64, sigma: f64, given: bool) -> bool
+fn is_sound_wanted(range: f64, sigma: f64, given: bool) -> bool
     ensures { λ r. ⌜ r ≡ soundRequestedOf (wantedAt range sigma given) ⌝ }
 {
     if given {

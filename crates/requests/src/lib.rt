@@ -1,17 +1,17 @@
 // The request that a host is making, line by line, in bounded memory: of each list the first 65 are kept.
 use definition::NormalPriorV1;
+use definition::Number;
 use definition::Point;
 use definition::Prior;
 use definition::TruingPriorsV1;
 use editing::Answer;
-use lines::Sigma;
 ghost use mathlib.Core.Path.{_≡_};
 ghost use lib.ListN.{take};
 ghost use Rattle.definition.specs.Request.{Opening};
 ghost use Rattle.opening.specs.Opening.{wantedAt};
 ghost use Rattle.definition.specs.Session.{Opened};
 ghost use Rattle.editing.specs.Meaning.{seen};
-ghost use Rattle.lines.specs.Reading.{sigmaSays};
+ghost use Rattle.definition.specs.Meaning.{numberOf};
 ghost use Rattle.requests.specs.Request.{emptyRequest, withShot, withDistance, withSpeed, withCoefficient, normal, requestedAt};
 ghost use Rattle.requests.specs.Kept.{Keeps, openingIn};
 
@@ -138,11 +138,11 @@ pub fn opened(r: Request) -> Answer
 }
 
 // A sigma that is not given goes in as 0, with its flag down.
-pub fn with_wanted(r: Request, range: f64, sigma: Sigma) -> Request
-    ensures { λ q. ⌜ ((o : Opening) → Keeps r o → Keeps q (withDistance o (requestedAt range (sigmaSays sigma)))) ⌝ }
+pub fn with_wanted(r: Request, range: f64, sigma: Number) -> Request
+    ensures { λ q. ⌜ ((o : Opening) → Keeps r o → Keeps q (withDistance o (requestedAt range (numberOf sigma)))) ⌝ }
 {
     match sigma {
-        Sigma::Absent => with_distance(r, range, 0.0, false),
-        Sigma::Given(x) => with_distance(r, range, x, true),
+        Number::Absent => with_distance(r, range, 0.0, false),
+        Number::Given(x) => with_distance(r, range, x, true),
     }
 }

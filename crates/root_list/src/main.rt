@@ -1,7 +1,7 @@
 // Reads doubles, a line of the 16 hexadecimal digits of its bits each, and writes each one's root so. A line of another form ends it.
-use numerals::ReadDouble;
 use libc::STDIN_FILENO;
 use libc::STDOUT_FILENO;
+use numerals::ReadDouble;
 
 // Reads a line, writes its answer, and says whether to go on.
 fn answer() -> bool {

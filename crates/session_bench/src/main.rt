@@ -8,9 +8,9 @@ use definition::Prior;
 use definition::Step;
 use definition::TruingPriorsV1;
 use editing::Answer;
-use numerals::ReadCount;
 use libc::STDIN_FILENO;
 use libc::STDOUT_FILENO;
+use numerals::ReadCount;
 use numeric::DropUnit;
 ghost use mathlib.Core.Path.{_≡_};
 ghost use lib.ListN.{take};
@@ -260,7 +260,8 @@ fn counted(out: &mut [u8; 32768], line: &[u8]) -> Total {
 }
 
 fn print_line(out: &[u8; 32768], n: usize) -> bool {
-    io::write_all(STDOUT_FILENO, slices::first_bytes(out, n)) && io::write_all(STDOUT_FILENO, &[10u8])
+    io::write_all(STDOUT_FILENO, slices::first_bytes(out, n))
+        && io::write_all(STDOUT_FILENO, &[10u8])
 }
 
 fn main() {

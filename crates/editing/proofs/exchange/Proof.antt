@@ -2,7 +2,7 @@
 use borrow.Author.Needs.{needs}
 use mathlib.Core.Path.{sym, _∙_}
 use borrow.Author.Tests.{not-false}
-use Rattle.opening.specs.Opening.{wantedAt}
+use Rattle.definition.specs.Meaning.{requestedOf}
 use Rattle.session.proofs.Laws.{failed}
 use Rattle.definition.specs.Whole.{exchange}
 use Rattle.editing.proofs.Calls.{none-edited, not-placed, faulty-exchange, begins-exchange}
@@ -21,8 +21,8 @@ declined-requires c κs = search needs
 enum-known-p : tie.Need-enum-known-p
 enum-known-p c = search needs
 
-sigma-or-0-requires : tie.Need-sigma-or-0-requires
-sigma-or-0-requires c κs = search needs
+stored-sigma-requires : tie.Need-stored-sigma-requires
+stored-sigma-requires c κs = search needs
 
 is-placed-requires : tie.Need-is-placed-requires
 is-placed-requires c κs = search needs
@@ -38,11 +38,11 @@ returns c =
     let at-standing = at-p .before .before in
     let start = at-standing .before .before in
     not-placed (start .args .s) (at-standing .standing .result) (at-standing .standing .ensures) _ _ (at-p .p .given .1)
-    (exchange (start .args .place) (wantedAt (start .args .range) (start .args .sigma) (start .args .given))) _
+    (exchange (start .args .place) (requestedOf (start .args .range) (start .args .sigma))) _
     (failed _ _ (at-is-placed .is-placed .ensures) (at-if1 .if1 .taken)) (c .declined2 .ensures)
 
-is-sound-wanted-requires : tie.Need-is-sound-wanted-requires
-is-sound-wanted-requires c κs = search needs
+is-sound-requested-requires : tie.Need-is-sound-requested-requires
+is-sound-requested-requires c κs = search needs
 
 closed-with-requires : tie.Need-closed-with-requires
 closed-with-requires c κs = search needs
@@ -50,16 +50,16 @@ closed-with-requires c κs = search needs
 returns-2 : tie.Need-returns-2
 returns-2 c =
     let at-if2 = c .before in
-    let at-is-sound-wanted = at-if2 .before in
-    let at-if1 = at-is-sound-wanted .before in
+    let at-is-sound-requested = at-if2 .before in
+    let at-if1 = at-is-sound-requested .before in
     let at-is-placed = at-if1 .before in
     let at-p = at-is-placed .before .before .before in
     let at-standing = at-p .before .before in
     let start = at-standing .before .before in
     faulty-exchange (start .args .s) (at-standing .standing .result) (at-standing .standing .ensures) _ _ (at-p .p .given .1) (start .args .place)
-    (wantedAt (start .args .range) (start .args .sigma) (start .args .given)) _
+    (requestedOf (start .args .range) (start .args .sigma)) _
     (sym (at-is-placed .is-placed .ensures) ∙ not-false _ (at-if1 .if1 .left))
-    (failed _ _ (at-is-sound-wanted .is-sound-wanted .ensures) (at-if2 .if2 .taken)) (c .closed-with .ensures)
+    (failed _ _ (at-is-sound-requested .is-sound-requested .ensures) (at-if2 .if2 .taken)) (c .closed-with .ensures)
 
 begin-requires : tie.Need-begin-requires
 begin-requires c κs = search needs
@@ -70,23 +70,23 @@ returns-3 c =
     let at-standing = at-enum-told .before .before in
     let start = at-standing .before .before in
     none-edited (start .args .s) (at-standing .standing .result) (at-standing .standing .ensures)
-    (exchange (start .args .place) (wantedAt (start .args .range) (start .args .sigma) (start .args .given))) _ (at-enum-told .enum-told .given .1)
+    (exchange (start .args .place) (requestedOf (start .args .range) (start .args .sigma))) _ (at-enum-told .enum-told .given .1)
     (c .declined .ensures)
 
 returns-4 : tie.Need-returns-4
 returns-4 c =
     let at-if2 = c .before in
-    let at-is-sound-wanted = at-if2 .before in
-    let at-if1 = at-is-sound-wanted .before in
+    let at-is-sound-requested = at-if2 .before in
+    let at-if1 = at-is-sound-requested .before in
     let at-is-placed = at-if1 .before in
-    let at-sigma-or-0 = at-is-placed .before in
-    let at-p = at-sigma-or-0 .before .before in
+    let at-stored-sigma = at-is-placed .before in
+    let at-p = at-stored-sigma .before .before in
     let at-standing = at-p .before .before in
     let start = at-standing .before .before in
     begins-exchange (start .args .s) (at-standing .standing .result) (at-standing .standing .ensures) _ _ (at-p .p .given .1) (start .args .place)
-    (start .args .range) (start .args .sigma) (at-sigma-or-0 .sigma-or-0 .result) (start .args .given) _ (at-sigma-or-0 .sigma-or-0 .ensures)
+    (start .args .range) (start .args .sigma) (at-stored-sigma .stored-sigma .result) _ (at-stored-sigma .stored-sigma .ensures)
     (sym (at-is-placed .is-placed .ensures) ∙ not-false _ (at-if1 .if1 .left))
-    (sym (at-is-sound-wanted .is-sound-wanted .ensures) ∙ not-false _ (at-if2 .if2 .left)) (c .begin .ensures)
+    (sym (at-is-sound-requested .is-sound-requested .ensures) ∙ not-false _ (at-if2 .if2 .left)) (c .begin .ensures)
 
 pub exchange-spec : {M : Type 1} → statement M
 exchange-spec =
@@ -96,11 +96,11 @@ exchange-spec =
     enum-told
     declined-requires
     enum-known-p
-    sigma-or-0-requires
+    stored-sigma-requires
     is-placed-requires
     declined-requires-2
     returns
-    is-sound-wanted-requires
+    is-sound-requested-requires
     closed-with-requires
     returns-2
     begin-requires

@@ -2,7 +2,7 @@
 use borrow.Author.Needs.{needs}
 use mathlib.Core.Path.{sym, _∙_}
 use borrow.Author.Tests.{not-false}
-use Rattle.opening.specs.Opening.{wantedAt}
+use Rattle.definition.specs.Meaning.{requestedOf}
 use Rattle.session.proofs.Laws.{failed}
 use Rattle.definition.specs.Whole.{putIn}
 use Rattle.editing.proofs.Calls.{none-edited, not-placed, no-room, faulty-put, begins-put}
@@ -21,8 +21,8 @@ declined-requires c κs = search needs
 enum-known-p : tie.Need-enum-known-p
 enum-known-p c = search needs
 
-sigma-or-0-requires : tie.Need-sigma-or-0-requires
-sigma-or-0-requires c κs = search needs
+stored-sigma-requires : tie.Need-stored-sigma-requires
+stored-sigma-requires c κs = search needs
 
 is-placed-requires : tie.Need-is-placed-requires
 is-placed-requires c κs = search needs
@@ -38,7 +38,7 @@ returns c =
     let at-standing = at-p .before .before in
     let start = at-standing .before .before in
     not-placed (start .args .s) (at-standing .standing .result) (at-standing .standing .ensures) _ _ (at-p .p .given .1)
-    (putIn (start .args .place) (wantedAt (start .args .range) (start .args .sigma) (start .args .given))) _
+    (putIn (start .args .place) (requestedOf (start .args .range) (start .args .sigma))) _
     (failed _ _ (at-is-placed .is-placed .ensures) (at-if1 .if1 .taken)) (c .declined2 .ensures)
 
 closed-with-requires : tie.Need-closed-with-requires
@@ -53,11 +53,11 @@ returns-2 c =
     let at-standing = at-p .before .before in
     let start = at-standing .before .before in
     no-room (start .args .s) (at-standing .standing .result) (at-standing .standing .ensures) _ _ (at-p .p .given .1) (start .args .place)
-    (wantedAt (start .args .range) (start .args .sigma) (start .args .given)) _
+    (requestedOf (start .args .range) (start .args .sigma)) _
     (sym (at-is-placed .is-placed .ensures) ∙ not-false _ (at-if1 .if1 .left)) (at-if2 .if2 .taken) (c .closed-with .ensures)
 
-is-sound-wanted-requires : tie.Need-is-sound-wanted-requires
-is-sound-wanted-requires c κs = search needs
+is-sound-requested-requires : tie.Need-is-sound-requested-requires
+is-sound-requested-requires c κs = search needs
 
 closed-with-requires-2 : tie.Need-closed-with-requires-2
 closed-with-requires-2 c κs = search needs
@@ -65,17 +65,17 @@ closed-with-requires-2 c κs = search needs
 returns-3 : tie.Need-returns-3
 returns-3 c =
     let at-if3 = c .before in
-    let at-is-sound-wanted = at-if3 .before in
-    let at-if2 = at-is-sound-wanted .before in
+    let at-is-sound-requested = at-if3 .before in
+    let at-if2 = at-is-sound-requested .before in
     let at-if1 = at-if2 .before in
     let at-is-placed = at-if1 .before in
     let at-p = at-is-placed .before .before .before in
     let at-standing = at-p .before .before in
     let start = at-standing .before .before in
     faulty-put (start .args .s) (at-standing .standing .result) (at-standing .standing .ensures) _ _ (at-p .p .given .1) (start .args .place)
-    (wantedAt (start .args .range) (start .args .sigma) (start .args .given)) _
+    (requestedOf (start .args .range) (start .args .sigma)) _
     (sym (at-is-placed .is-placed .ensures) ∙ not-false _ (at-if1 .if1 .left)) (at-if2 .if2 .left)
-    (failed _ _ (at-is-sound-wanted .is-sound-wanted .ensures) (at-if3 .if3 .taken)) (c .closed-with2 .ensures)
+    (failed _ _ (at-is-sound-requested .is-sound-requested .ensures) (at-if3 .if3 .taken)) (c .closed-with2 .ensures)
 
 begin-requires : tie.Need-begin-requires
 begin-requires c κs = search needs
@@ -86,24 +86,24 @@ returns-4 c =
     let at-standing = at-enum-told .before .before in
     let start = at-standing .before .before in
     none-edited (start .args .s) (at-standing .standing .result) (at-standing .standing .ensures)
-    (putIn (start .args .place) (wantedAt (start .args .range) (start .args .sigma) (start .args .given))) _ (at-enum-told .enum-told .given .1)
+    (putIn (start .args .place) (requestedOf (start .args .range) (start .args .sigma))) _ (at-enum-told .enum-told .given .1)
     (c .declined .ensures)
 
 returns-5 : tie.Need-returns-5
 returns-5 c =
     let at-if3 = c .before in
-    let at-is-sound-wanted = at-if3 .before in
-    let at-if2 = at-is-sound-wanted .before in
+    let at-is-sound-requested = at-if3 .before in
+    let at-if2 = at-is-sound-requested .before in
     let at-if1 = at-if2 .before in
     let at-is-placed = at-if1 .before in
-    let at-sigma-or-0 = at-is-placed .before in
-    let at-p = at-sigma-or-0 .before .before in
+    let at-stored-sigma = at-is-placed .before in
+    let at-p = at-stored-sigma .before .before in
     let at-standing = at-p .before .before in
     let start = at-standing .before .before in
     begins-put (start .args .s) (at-standing .standing .result) (at-standing .standing .ensures) _ _ (at-p .p .given .1) (start .args .place)
-    (start .args .range) (start .args .sigma) (at-sigma-or-0 .sigma-or-0 .result) (start .args .given) _ (at-sigma-or-0 .sigma-or-0 .ensures)
+    (start .args .range) (start .args .sigma) (at-stored-sigma .stored-sigma .result) _ (at-stored-sigma .stored-sigma .ensures)
     (sym (at-is-placed .is-placed .ensures) ∙ not-false _ (at-if1 .if1 .left)) (at-if2 .if2 .left)
-    (sym (at-is-sound-wanted .is-sound-wanted .ensures) ∙ not-false _ (at-if3 .if3 .left)) (c .begin .ensures)
+    (sym (at-is-sound-requested .is-sound-requested .ensures) ∙ not-false _ (at-if3 .if3 .left)) (c .begin .ensures)
 
 pub put-in-spec : {M : Type 1} → statement M
 put-in-spec =
@@ -113,13 +113,13 @@ put-in-spec =
     enum-told
     declined-requires
     enum-known-p
-    sigma-or-0-requires
+    stored-sigma-requires
     is-placed-requires
     declined-requires-2
     returns
     closed-with-requires
     returns-2
-    is-sound-wanted-requires
+    is-sound-requested-requires
     closed-with-requires-2
     returns-3
     begin-requires
