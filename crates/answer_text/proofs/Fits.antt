@@ -13,7 +13,7 @@ use Rattle.definition.specs.Meaning.{observationOf}
 use Rattle.definition.specs.Summary.{Baseline, Report, Approximation, resultOf, bandOf, reportOf}
 use Rattle.likelihood.proofs.Laws.{zip-length, zip3-within}
 use Rattle.report.specs.Places.{requestedAt}
-use Rattle.lists.specs.Lists.{requestedOf, observationsAt}
+use Rattle.lists.specs.Lists.{requestedIn, observationsAt}
 use Rattle.lists.specs.declared.Shots.{Shots}
 use Rattle.lists.specs.declared.Wanted.{Wanted}
 use Rattle.stencil.specs.Stencil.{rowsAt}
@@ -49,7 +49,7 @@ bands-most : (a : Approximation) (w : Wanted) (t : StencilRows) → w .n ≤ 64 
 bands-most a w t h =
     let taken = length-take (w .n) (w .ranges) in
     let requested = zip-length requestedAt (take (w .n) (w .ranges)) (take (w .n) (w .sigmas)) in
-    let bands = zip-length (bandOf a) (requestedOf w) (rowsOf (rowsAt (w .n) t)) in
+    let bands = zip-length (bandOf a) (requestedIn w) (rowsOf (rowsAt (w .n) t)) in
     omega arith
 
 -- the baseline that there is

@@ -9,9 +9,9 @@ use lib.ListN.{length, take, drop}
 use lib.Ieee.{Float, nan, binary64, fits, ofBits, toBits}
 use lib.Ieee.Bits.{ofBits-toBits, toBits-lt}
 use Rattle.likelihood.proofs.Laws.{over-take}
-use Rattle.c_api.specs.Desk.{numberOf, numberAt, doubleAt, lowest, bytesOf, doubleBytes, putAt}
+use Rattle.c_api.specs.Desk.{littleEndian, numberAt, doubleAt, lowest, bytesOf, doubleBytes, putAt}
 
-number-back : (k p : ℕ) → p < 256 ^ k → numberOf (lowest k p) ≡ p
+number-back : (k p : ℕ) → p < 256 ^ k → littleEndian (lowest k p) ≡ p
 number-back zero p h = omega (arith, pow-zero 256)
 number-back (suc k) p h = rw (number-back k (p / 256) (div-lt-iff-lt-mul {k = 256} {x = p} {y = 256 ^ k} (omega arith) .1 (rw pow-suc at h))) (omega arith)
 
@@ -23,7 +23,7 @@ put-there (suc i) n bytes (x ∷ xs) e h = put-there i n bytes xs e (omega arith
 pub double-back : (x : Float) (i : ℕ) (xs : List ℕ) → T (fits binary64 x) → i + 8 ≤ length xs → doubleAt i (putAt i (doubleBytes x) xs) ≡ x
 unfolding numberAt bytesOf
 double-back x i xs f h =
-    ap (λ (l : List ℕ). ofBits binary64 (numberOf l)) (put-there i 8 (lowest 8 (toBits binary64 x)) xs refl h)
+    ap (λ (l : List ℕ). ofBits binary64 (littleEndian l)) (put-there i 8 (lowest 8 (toBits binary64 x)) xs refl h)
     ∙ ap (ofBits binary64) (number-back 8 (toBits binary64 x) (toBits-lt binary64 x f))
     ∙ ofBits-toBits binary64 x f
 

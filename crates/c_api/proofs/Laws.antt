@@ -20,7 +20,7 @@ use Rattle.definition.specs.Likelihood.{chiSquareOf, withPriorsOf}
 use Rattle.definition.specs.Meaning.{observationsOf}
 use Rattle.definition.specs.declared.Point.{Point}
 use Rattle.definition.specs.declared.TruingPriorsV1.{TruingPriorsV1}
-use Rattle.c_api.specs.Desk.{numberOf, numberAt, doubleAt, columnOf, lowest, bytesOf, doubleBytes, putAt, Outcome, sumOf, sumOutcome, invertedOutcome}
+use Rattle.c_api.specs.Desk.{littleEndian, numberAt, doubleAt, columnOf, lowest, bytesOf, doubleBytes, putAt, Outcome, sumOf, sumOutcome, invertedOutcome}
 use Rattle.c_api.specs.Desk.{inverseOutcome}
 
 -- ---- reading
@@ -38,10 +38,10 @@ first-8 (b0 ∷ b1 ∷ b2 ∷ b3 ∷ b4 ∷ b5 ∷ b6 ∷ b7 ∷ l) h = refl
 
 -- 8 bytes, each read by its index
 pub read-8 : (bytes : List ℕ) (i : ℕ) → i + 8 ≤ length bytes
-    → numberOf (getD bytes i 0 ∷ getD bytes (i + 1) 0 ∷ getD bytes (i + 2) 0 ∷ getD bytes (i + 3) 0 ∷ getD bytes (i + 4) 0 ∷ getD bytes (i + 5) 0
+    → littleEndian (getD bytes i 0 ∷ getD bytes (i + 1) 0 ∷ getD bytes (i + 2) 0 ∷ getD bytes (i + 3) 0 ∷ getD bytes (i + 4) 0 ∷ getD bytes (i + 5) 0
     ∷ getD bytes (i + 6) 0 ∷ getD bytes (i + 7) 0 ∷ []) ≡ numberAt i bytes
 unfolding numberAt
-read-8 bytes i h = rw (add-zero i) at (simp getD-drop at (ap numberOf (first-8 (drop i bytes) (omega (arith, length-drop i bytes)))))
+read-8 bytes i h = rw (add-zero i) at (simp getD-drop at (ap littleEndian (first-8 (drop i bytes) (omega (arith, length-drop i bytes)))))
 
 -- the end of a stride of n
 pub stride-within : (i n stride : ℕ) → i < n → i * stride + stride ≤ n * stride

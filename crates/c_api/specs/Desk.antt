@@ -19,13 +19,13 @@ use Rattle.slices.specs.Slices.{laidOver}
 -- ---- doubles in bytes
 
 -- the number with these bytes, the lowest first
-abbrev pub numberOf : List ℕ → ℕ
-numberOf [] = 0
-numberOf (b ∷ bytes) = b + 256 * numberOf bytes
+abbrev pub littleEndian : List ℕ → ℕ
+littleEndian [] = 0
+littleEndian (b ∷ bytes) = b + 256 * littleEndian bytes
 
 -- the number of the 8 bytes from an index on
 unfoldable pub numberAt : ℕ → List ℕ → ℕ
-numberAt i bytes = numberOf (take 8 (drop i bytes))
+numberAt i bytes = littleEndian (take 8 (drop i bytes))
 
 -- the double there: every not-a-number pattern is the one not-a-number
 abbrev pub doubleAt : ℕ → List ℕ → Float

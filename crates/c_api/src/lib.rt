@@ -12,7 +12,7 @@ ghost use lib.ListN.{length, replicate};
 ghost use Rattle.root.specs.Root.{rootOf};
 ghost use Rattle.numeric.specs.Numeric.{zero64};
 ghost use Rattle.slices.specs.Slices.{laidOver};
-ghost use Rattle.c_api.specs.Desk.{numberOf, doubleAt, columnOf, doubleBytes, putAt, priorOf, priorsOf, sumOf, sumOutcome, inverseBytes, inverseOutcome};
+ghost use Rattle.c_api.specs.Desk.{littleEndian, doubleAt, columnOf, doubleBytes, putAt, priorOf, priorsOf, sumOf, sumOutcome, inverseBytes, inverseOutcome};
 
 // The observations that an objective sum holds at most, and the bytes of one.
 const MAX_OBSERVATIONS: usize = 64;
@@ -28,7 +28,7 @@ const INVERSE: usize = 32;
 
 // The number with these bytes, the lowest first.
 fn word(b0: u8, b1: u8, b2: u8, b3: u8, b4: u8, b5: u8, b6: u8, b7: u8) -> u64
-    ensures { λ r. ⌜ r ≡ numberOf (b0 ∷ b1 ∷ b2 ∷ b3 ∷ b4 ∷ b5 ∷ b6 ∷ b7 ∷ []) ⌝ }
+    ensures { λ r. ⌜ r ≡ littleEndian (b0 ∷ b1 ∷ b2 ∷ b3 ∷ b4 ∷ b5 ∷ b6 ∷ b7 ∷ []) ⌝ }
 {
     let high = b4 as u64 + 256 * (b5 as u64 + 256 * (b6 as u64 + 256 * b7 as u64));
     b0 as u64 + 256 * (b1 as u64 + 256 * (b2 as u64 + 256 * (b3 as u64 + 256 * high)))

@@ -19,7 +19,7 @@ use Rattle.definition.specs.declared.Point.{Point}
 use Rattle.definition.proofs.Questions.{asks-now}
 use Rattle.definition.specs.Session.{sizesFor, wants, rightLength}
 use Rattle.editing.specs.declared.Session.{Session}
-use Rattle.demands.specs.Calls.{Call, reply, resume, Editing, At, restBy, rest, Taking, declines, takes, takingReply, stance, taken, unlessDeclined, after}
+use Rattle.demands.specs.Calls.{Call, reply, resume, Editing, At, restBy, restAt, Taking, declines, takes, takingReply, stance, afterTaken, unlessDeclined, afterCall}
 use Rattle.demands.specs.Calls.{due, dueTo}
 use Rattle.demands.specs.Standing.{IsNew, News}
 use Rattle.definition.specs.Run.{Entry, dropOr0, isMissing}
@@ -72,7 +72,7 @@ of-edit o p shots h = absurd h
 of-edit o p distances h = absurd h
 of-edit o p (new d) h = omega arith
 
-asks-few : (s : Session) (o : Opening) (t : At) → Stands s o t → (p : Point) (w : Which) (k : Reply → Run Finished) → rest o t ≡ ask p w k
+asks-few : (s : Session) (o : Opening) (t : At) → Stands s o t → (p : Point) (w : Which) (k : Reply → Run Finished) → restAt o t ≡ ask p w k
     → wants (sizesFor o) w ≤ 64
 asks-few s o t h p w k e = by (t .last) (h .inv .news) e
   where
@@ -91,19 +91,19 @@ wrong-length n es h =
     ap (λ (b : Bool). b && eqb (length (map isMissing es)) n) (ne-eqb (length (map dropOr0 es)) n (λ q. omega (arith, drops-long es)))
 
 module _ (o : Opening) (t : At) where
-  same-declined : (x y : Call) (n : ℕ) → stance o t x ≡ declines n → stance o t y ≡ declines n → (after o t x ≡ after o t y) × (dueTo o t x ≡ dueTo o t y)
+  same-declined : (x y : Call) (n : ℕ) → stance o t x ≡ declines n → stance o t y ≡ declines n → (afterCall o t x ≡ afterCall o t y) × (dueTo o t x ≡ dueTo o t y)
   same-declined x y n e f = (
-    ap (λ (z : Taking). unlessDeclined z t (taken o t x)) e ∙ sym (ap (λ (z : Taking). unlessDeclined z t (taken o t y)) f),
-    ap (λ (z : Taking). due z (rest o (after o t x))) e ∙ sym (ap (λ (z : Taking). due z (rest o (after o t y))) f),
+    ap (λ (z : Taking). unlessDeclined z t (afterTaken o t x)) e ∙ sym (ap (λ (z : Taking). unlessDeclined z t (afterTaken o t y)) f),
+    ap (λ (z : Taking). due z (restAt o (afterCall o t x))) e ∙ sym (ap (λ (z : Taking). due z (restAt o (afterCall o t y))) f),
   )
 
-  closed : {u : Run Finished} (es : List Entry) → rest o t ≡ u → takingReply (sizesFor o) u (map dropOr0 es) (map isMissing es) ≡ declines 8
+  closed : {u : Run Finished} (es : List Entry) → restAt o t ≡ u → takingReply (sizesFor o) u (map dropOr0 es) (map isMissing es) ≡ declines 8
       → stance o t (replyOf es) ≡ declines 8
   closed es e q = ap (λ (v : Run Finished). takingReply (sizesFor o) v (map dropOr0 es) (map isMissing es)) e ∙ q
 
-  declined-long : (u : Run Finished) → rest o t ≡ u → ((p : Point) (w : Which) (k : Reply → Run Finished) → u ≡ ask p w k → wants (sizesFor o) w ≤ 64)
+  declined-long : (u : Run Finished) → restAt o t ≡ u → ((p : Point) (w : Which) (k : Reply → Run Finished) → u ≡ ask p w k → wants (sizesFor o) w ≤ 64)
       → (es : List Entry) → 65 < length es
-      → (after o t (replyOf (take 65 es)) ≡ after o t (replyOf es)) × (dueTo o t (replyOf (take 65 es)) ≡ dueTo o t (replyOf es))
+      → (afterCall o t (replyOf (take 65 es)) ≡ afterCall o t (replyOf es)) × (dueTo o t (replyOf (take 65 es)) ≡ dueTo o t (replyOf es))
   declined-long (done c) e h es l =
       same-declined (replyOf (take 65 es)) (replyOf es) 8 (closed (take 65 es) e refl) (closed es e refl)
   declined-long (refuse n i) e h es l =
@@ -122,7 +122,7 @@ reply-kept s u h es = by (leb (length es) 65) refl
     by : (b : Bool) → leb (length es) 65 ≡ b → calls u (replyOf (take 65 es)) ≡ calls u (replyOf es)
     by true e = ap (λ (fs : List Entry). calls u (replyOf fs)) (take-all 65 es (leb-true (length es) 65 e))
     by false e =
-        let r = declined-long (u .opening) (u .at) (rest (u .opening) (u .at)) refl (asks-few s (u .opening) (u .at) h) es (leb-false (length es) 65 e) in
+        let r = declined-long (u .opening) (u .at) (restAt (u .opening) (u .at)) refl (asks-few s (u .opening) (u .at) h) es (leb-false (length es) 65 e) in
         λ i. (record { lines = u .lines; section = u .section; request = u .request; opening = u .opening; at = r .0 i }, says (r .1 i))
 
 -- a line as it is kept gets the answer of the whole line

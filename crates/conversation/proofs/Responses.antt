@@ -24,7 +24,7 @@ use Rattle.editing.specs.Meaning.{state, seen}
 use Rattle.editing.proofs.Contracts.{Stands as Stood, Declines, entriesTaken, Opened, Replied}
 use Rattle.editing.specs.declared.Session.{Session}
 use Rattle.editing.specs.declared.Answer.{Answer as Given}
-use Rattle.demands.specs.Calls.{Call, reply, first, finishedAt, reportBy, after, dueTo}
+use Rattle.demands.specs.Calls.{Call, reply, first, finishedAt, reportBy, afterCall, dueTo}
 use Rattle.demands.specs.Demands.{Meets, count}
 use Rattle.lines.specs.Lines.{Form}
 use Rattle.lines.specs.Reading.{entriesIn, formIn, formSays}
@@ -132,13 +132,13 @@ response-fits s (response.Asked n) = omega (arith, asked-length n, length-append
 response-fits s (response.Says step) = answer-fits (record { step = step; session = s })
 
 -- a text that fits is written whole
-pub fills : {out after : Text} {n : ℕ} {text : Text} → length text ≤ length out → Writes out 0 after n text → Fills out after n text
-fills {out} {after} {n} {text} h w =
+pub fills : {out afterCall : Text} {n : ℕ} {text : Text} → length text ≤ length out → Writes out 0 afterCall n text → Fills out afterCall n text
+fills {out} {afterCall} {n} {text} h w =
     let b = writing.whole w (omega arith) in
     let e : n ≡ length text = omega (arith, b .1) in
     record {
       stands =
-          sym (take-append-drop n after) ∙ ap (λ (s : Text). s ++ drop n after) (b .0) ∙ ap (λ (s : Text). text ++ s) (w .keeps)
+          sym (take-append-drop n afterCall) ∙ ap (λ (s : Text). s ++ drop n afterCall) (b .0) ∙ ap (λ (s : Text). text ++ s) (w .keeps)
           ∙ ap (λ (m : ℕ). text ++ drop m out) e;
       counts = e;
     }
@@ -193,10 +193,10 @@ by-form l f g e q u r d = subst (λ (x : Form). Responds r (answerTo u x)) (sym 
 
 -- what is answered stands whole in the buffer
 pub answered-fills :
-    {out after : Text} {n : ℕ} (h : Held) (u : Conversation) → Tracks h u → (r : Response) (a : Answer) → responseSays r ≡ a → length out ≡ 32768
-    → Writes out 0 after n (responseText (h .session) r) → Fills out after n (answerText u a)
-answered-fills {out} {after} {n} h u k r a e l w = subst (Fills out after n) (text-so h u k r a e) (fills (omega (arith, response-fits (h .session) r)) w)
+    {out afterCall : Text} {n : ℕ} (h : Held) (u : Conversation) → Tracks h u → (r : Response) (a : Answer) → responseSays r ≡ a → length out ≡ 32768
+    → Writes out 0 afterCall n (responseText (h .session) r) → Fills out afterCall n (answerText u a)
+answered-fills {out} {afterCall} {n} h u k r a e l w = subst (Fills out afterCall n) (text-so h u k r a e) (fills (omega (arith, response-fits (h .session) r)) w)
 
 pub malformed-fills :
-    {out after : Text} {n : ℕ} (m : ℕ) → length out ≡ 32768 → Writes out 0 after n (line (malformedText m)) → Fills out after n (line (malformedText m))
-malformed-fills {out} {after} {n} m l w = fills (omega (arith, malformed-length m, length-append (malformedText m) (10 ∷ []))) w
+    {out afterCall : Text} {n : ℕ} (m : ℕ) → length out ≡ 32768 → Writes out 0 afterCall n (line (malformedText m)) → Fills out afterCall n (line (malformedText m))
+malformed-fills {out} {afterCall} {n} m l w = fills (omega (arith, malformed-length m, length-append (malformedText m) (10 ∷ []))) w

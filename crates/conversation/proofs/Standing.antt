@@ -26,8 +26,8 @@ use Rattle.editing.specs.Meaning.{state}
 use Rattle.editing.proofs.Contracts.{Opened}
 use Rattle.editing.specs.declared.Session.{Session}
 use Rattle.editing.specs.declared.Answer.{Answer}
-use Rattle.demands.specs.Calls.{Call, reply, refusePoint, change, At, first, rest, keptBy, finishedBy, finishedAt, reportBy, takingReply, takingRefusal}
-use Rattle.demands.specs.Calls.{takingEdit, unlessDeclined, taken, due, after, dueTo}
+use Rattle.demands.specs.Calls.{Call, reply, refusePoint, change, At, first, restAt, keptBy, finishedBy, finishedAt, reportBy, takingReply, takingRefusal}
+use Rattle.demands.specs.Calls.{takingEdit, unlessDeclined, afterTaken, due, afterCall, dueTo}
 use Rattle.demands.specs.Demands.{Meets, count}
 use Rattle.demands.specs.Standing.{Inv}
 use Rattle.demands.proofs.Demands.{Good, step, begins, report-after}
@@ -44,7 +44,7 @@ pub record Comes (a : Answer) (o : Opening) (t : At) (due : Step) : Type 0 where
 
 -- on a refused opening every call is declined
 record Idle (o : Opening) (x : Call) (n : ℕ) : Type 0 where
-  stays : after o first x ≡ first
+  stays : afterCall o first x ≡ first
   due : dueTo o first x ≡ Step.Refused n 0
 
 abbrev idleBy : Call → ℕ
@@ -54,28 +54,28 @@ idleBy (change e) = 14
 
 idle : (o : Opening) (n i : ℕ) → whole o ≡ refuse n i → (x : Call) → Idle o x (idleBy x)
 idle o n i e (reply ds ms) = record {
-  stays = ap (λ (u : Run Finished). unlessDeclined (takingReply (sizesFor o) u ds ms) first (taken o first (reply ds ms))) e;
-  due = ap (λ (u : Run Finished). due (takingReply (sizesFor o) u ds ms) (rest o (after o first (reply ds ms)))) e;
+  stays = ap (λ (u : Run Finished). unlessDeclined (takingReply (sizesFor o) u ds ms) first (afterTaken o first (reply ds ms))) e;
+  due = ap (λ (u : Run Finished). due (takingReply (sizesFor o) u ds ms) (restAt o (afterCall o first (reply ds ms)))) e;
 }
 idle o n i e refusePoint = record {
-  stays = ap (λ (u : Run Finished). unlessDeclined (takingRefusal u) first (taken o first refusePoint)) e;
-  due = ap (λ (u : Run Finished). due (takingRefusal u) (rest o (after o first refusePoint))) e;
+  stays = ap (λ (u : Run Finished). unlessDeclined (takingRefusal u) first (afterTaken o first refusePoint)) e;
+  due = ap (λ (u : Run Finished). due (takingRefusal u) (restAt o (afterCall o first refusePoint))) e;
 }
 idle o n i e (change d) = record {
-  stays = ap (λ (u : Run Finished). unlessDeclined (takingEdit (finishedBy none u) d) first (taken o first (change d))) e;
-  due = ap (λ (u : Run Finished). due (takingEdit (finishedBy none u) d) (rest o (after o first (change d)))) e;
+  stays = ap (λ (u : Run Finished). unlessDeclined (takingEdit (finishedBy none u) d) first (afterTaken o first (change d))) e;
+  due = ap (λ (u : Run Finished). due (takingEdit (finishedBy none u) d) (restAt o (afterCall o first (change d)))) e;
 }
 
-pub called : (s : Session) (o : Opening) (t : At) → Stands s o t → (x : Call) (a : Answer) → Meets x s a → Comes a o (after o t x) (dueTo o t x)
+pub called : (s : Session) (o : Opening) (t : At) → Stands s o t → (x : Call) (a : Answer) → Meets x s a → Comes a o (afterCall o t x) (dueTo o t x)
 called s o t h x a m = by (h .all)
   where
     g : Good (kept o) t s (record { call = x; answer = a })
     g = step (kept o) t s (h .inv) x a m
 
     P : Opening → Type 0
-    P p = Inv (kept o) (after p t x) (a .session) × (a .step ≡ dueTo p t x)
+    P p = Inv (kept o) (afterCall p t x) (a .session) × (a .step ≡ dueTo p t x)
 
-    by : (kept o ≡ o) ⊎ Refuses o t → Comes a o (after o t x) (dueTo o t x)
+    by : (kept o ≡ o) ⊎ Refuses o t → Comes a o (afterCall o t x) (dueTo o t x)
     by (inl e) =
         let p : P o = subst P e (g .inv, g .defined .says) in
         record { stands = record { inv = p .0; all = inl e }; says = p .1 }
@@ -83,9 +83,9 @@ called s o t h x a m = by (h .all)
         let e : whole (kept o) ≡ refuse (r .number) (r .position) = kept-whole o ∙ r .over in
         let ours = idle o (r .number) (r .position) (r .over) x in
         let theirs = idle (kept o) (r .number) (r .position) e x in
-        let ends : after o t x ≡ first = ap (λ (v : At). after o v x) (r .still) ∙ ours .stays in
-        let same : after (kept o) t x ≡ after o t x = ap (λ (v : At). after (kept o) v x) (r .still) ∙ theirs .stays ∙ sym ends in
-        let inv : Inv (kept o) (after o t x) (a .session) = subst (λ (v : At). Inv (kept o) v (a .session)) same (g .inv) in
+        let ends : afterCall o t x ≡ first = ap (λ (v : At). afterCall o v x) (r .still) ∙ ours .stays in
+        let same : afterCall (kept o) t x ≡ afterCall o t x = ap (λ (v : At). afterCall (kept o) v x) (r .still) ∙ theirs .stays ∙ sym ends in
+        let inv : Inv (kept o) (afterCall o t x) (a .session) = subst (λ (v : At). Inv (kept o) v (a .session)) same (g .inv) in
         record {
           stands = record { inv = inv; all = inr (record { number = r .number; position = r .position; over = r .over; still = ends }) };
           says = g .defined .says ∙ ap (λ (v : At). dueTo (kept o) v x) (r .still) ∙ theirs .due ∙ sym (ap (λ (v : At). dueTo o v x) (r .still) ∙ ours .due);
@@ -112,7 +112,7 @@ pub reported : (s : Session) (o : Opening) (t : At) → Stands s o t → reportI
 reported s o t h = by (h .all)
   where
     ours : reportIn (state s) ≡ reportBy (finishedAt (kept o) t)
-    ours = ap reportIn (h .inv .leads) ∙ report-after (keptBy (t .last)) (rest (kept o) t)
+    ours = ap reportIn (h .inv .leads) ∙ report-after (keptBy (t .last)) (restAt (kept o) t)
 
     by : (kept o ≡ o) ⊎ Refuses o t → reportIn (state s) ≡ reportBy (finishedAt o t)
     by (inl e) = ours ∙ ap (λ (p : Opening). reportBy (finishedAt p t)) e

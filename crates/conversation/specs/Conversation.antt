@@ -1,5 +1,5 @@
 -- The line protocol between two lines: where a conversation stands, and what a line's form does to it and gets for an answer. It reads beside docs/PROTOCOL.md. What is said
--- to a call on the session, and where it stands then, are `dueTo` and `after` (demands); the texts are those of `report_text` and `answer_text`.
+-- to a call on the session, and where it stands then, are `dueTo` and `afterCall` (demands); the texts are those of `report_text` and `answer_text`.
 use Prim.Native.Nat.{ℕ}
 use mathlib.Core.Bool.{Bool, true, false}
 use mathlib.Core.List.{List, [], _∷_, _++_, map}
@@ -12,12 +12,12 @@ use Rattle.definition.specs.Whole as edits
 use Rattle.definition.specs.Whole.{whole}
 use Rattle.definition.specs.Session.{head, moreOf}
 use Rattle.definition.specs.declared.Step.{Step}
-use Rattle.demands.specs.Calls.{Call, reply, refusePoint, change, At, first, finishedAt, reportBy, after, dueTo}
+use Rattle.demands.specs.Calls.{Call, reply, refusePoint, change, At, first, finishedAt, reportBy, afterCall, dueTo}
 use Rattle.lines.specs.Lines.{Form, malformed, entered, shot, priorSpeed, priorCoefficient, distance, openPlain, drops, refused, putIn, takeOut, exchange, asked}
 use Rattle.report_text.specs.Writing.{Text}
 use Rattle.report_text.specs.Texts.{askedText, malformedText}
 use Rattle.answer_text.specs.Answers.{saidText, line}
-use Rattle.requests.specs.Request.{emptyRequest, withShot, withSpeed, withCoefficient, withDistance, normal, requestedAt}
+use Rattle.requests.specs.Request.{emptyRequest, withShot, withSpeed, withCoefficient, withDistance, normal, requestedWith}
 use Rattle.conversation.specs.declared.Section.{Section}
 use Rattle.conversation.specs.declared.Section.the-variants.{Closed, Shots, Priors, Distances}
 
@@ -102,7 +102,7 @@ opens t = (record { lines = t .lines; section = Closed; request = t .request; op
 -- a call on the session
 abbrev pub calls : Conversation → Call → Answered
 calls t x =
-    (record { lines = t .lines; section = t .section; request = t .request; opening = t .opening; at = after (t .opening) (t .at) x }, says (dueTo (t .opening) (t .at) x))
+    (record { lines = t .lines; section = t .section; request = t .request; opening = t .opening; at = afterCall (t .opening) (t .at) x }, says (dueTo (t .opening) (t .at) x))
 
 -- the entries as drops and flags; a missing entry's drop is not looked at
 abbrev pub replyOf : List Entry → Call
@@ -115,13 +115,13 @@ answerTo t (entered mv bc) = collected t Shots (emptyRequest (record { mv = mv; 
 answerTo t (shot range drop sigma) = inPlace (takesShot (t .section)) t (collected t Shots (withShot (t .request) (record { range = range; drop = drop; sigma = sigma })))
 answerTo t (priorSpeed mean sigma) = inPlace (takesShot (t .section)) t (collected t Priors (withSpeed (t .request) (normal mean sigma)))
 answerTo t (priorCoefficient mean sigma) = inPlace (takesCoefficient (t .section)) t (collected t Distances (withCoefficient (t .request) (normal mean sigma)))
-answerTo t (distance range sigma) = inPlace (takesDistance (t .section)) t (collected t Distances (withDistance (t .request) (requestedAt range sigma)))
+answerTo t (distance range sigma) = inPlace (takesDistance (t .section)) t (collected t Distances (withDistance (t .request) (requestedWith range sigma)))
 answerTo t openPlain = inPlace (takesDistance (t .section)) t (opens t)
 answerTo t (drops es) = calls t (replyOf es)
 answerTo t refused = calls t refusePoint
-answerTo t (putIn place range sigma) = calls t (change (edits.putIn place (requestedAt range sigma)))
+answerTo t (putIn place range sigma) = calls t (change (edits.putIn place (requestedWith range sigma)))
 answerTo t (takeOut place) = calls t (change (edits.takeOut place))
-answerTo t (exchange place range sigma) = calls t (change (edits.exchange place (requestedAt range sigma)))
+answerTo t (exchange place range sigma) = calls t (change (edits.exchange place (requestedWith range sigma)))
 answerTo t asked = (t, count (put (whole (t .opening)) (t .at .run)))
 
 -- ---- texts

@@ -13,13 +13,13 @@ use Rattle.definition.specs.Fit.{dampedOf, unfitOf, steppedOf, stepOf, l
 use Rattle.definition.specs.Fit.{iterate, fitMap}
 use Rattle.definition.specs.Likelihood.{chiSquareOf, withPriorOf, withPriorsOf, valued, objective, mvStepOf, bcStepOf, mvPlusAt, mvMinusAt, bcPlusAt}
 use Rattle.definition.specs.Likelihood.{bcMinusAt, bcMinus, bcPlus, mvMinus, mvPlus, truingJacobianRows, complete, accumulateOf, sumsOf}
-use Rattle.definition.specs.Likelihood.{priorInformationOf, withPriorGradientOf, sensitivityRatioOf, finishedOf, evaluate}
-use Rattle.definition.specs.Mesh.{boundedOf, candidateOf, unmovedOf, quarteredOf, look, ungained, begin, judged, turn, seen, stopped, poll}
+use Rattle.definition.specs.Likelihood.{priorInformationOf, withPriorGradientOf, sensitivityRatioOf, fromSums, evaluate}
+use Rattle.definition.specs.Mesh.{boundedOf, candidateOf, unmovedOf, quarteredOf, look, ungained, begin, judged, pollStep, seen, stopped, poll}
 use Rattle.definition.specs.Summary.{resultOf, baselineOf, covarianceOf, correlationOf, buildApproximationOf, approximationOf, effectiveCountOf}
 use Rattle.definition.specs.Summary.{diagnosticsOf, bandVarianceOf, latentOf, futureOf, bandOf, observedMin, observedMax, dominatedOf}
 use Rattle.definition.specs.Summary.{crossesBoundsOf, warningsOf, reportOf}
 use Rattle.definition.specs.Whole.{withinOf, positiveOf, soundObservationOf, soundPriorOf, soundRequestedOf, checkedPoint, checkedCount}
-use Rattle.definition.specs.Whole.{checkedMeasured, checkedRequested, bandRows, baseline, concluded, banded, fitted, run, whole, asked, edit}
+use Rattle.definition.specs.Whole.{checkedMeasured, checkedRequested, bandRows, baseline, concluded, banded, fitted, run, whole, editQuestions, edit}
 
 -- To unfold one of these is to unfold what its line names: every definition that a run is computed by.
 
@@ -37,8 +37,8 @@ leaves = 0
 -- the fit
 fits : ℕ
 unfolding chiSquareOf withPriorOf withPriorsOf valued objective mvStepOf bcStepOf mvPlusAt mvMinusAt bcPlusAt bcMinusAt bcMinus bcPlus mvMinus mvPlus
-    truingJacobianRows complete accumulateOf sumsOf priorInformationOf withPriorGradientOf sensitivityRatioOf finishedOf evaluate boundedOf candidateOf
-    unmovedOf quarteredOf look ungained begin judged turn seen stopped poll dampedOf unfitOf steppedOf stepOf loweredOf gradientNormOf flatOf trials meshed
+    truingJacobianRows complete accumulateOf sumsOf priorInformationOf withPriorGradientOf sensitivityRatioOf fromSums evaluate boundedOf candidateOf
+    unmovedOf quarteredOf look ungained begin judged pollStep seen stopped poll dampedOf unfitOf steppedOf stepOf loweredOf gradientNormOf flatOf trials meshed
     verified verify evaluated iterate fitMap
 fits = 0
 
@@ -46,7 +46,7 @@ fits = 0
 reports : ℕ
 unfolding resultOf baselineOf covarianceOf correlationOf buildApproximationOf approximationOf effectiveCountOf diagnosticsOf bandVarianceOf latentOf
     futureOf bandOf observedMin observedMax dominatedOf crossesBoundsOf warningsOf reportOf withinOf positiveOf soundObservationOf soundPriorOf
-    soundRequestedOf checkedPoint checkedCount checkedMeasured checkedRequested bandRows baseline concluded banded fitted run whole asked edit
+    soundRequestedOf checkedPoint checkedCount checkedMeasured checkedRequested bandRows baseline concluded banded fitted run whole editQuestions edit
 reports = 0
 
 -- all of them

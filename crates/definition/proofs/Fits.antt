@@ -13,8 +13,8 @@ use Rattle.definition.specs.Constants.{leastRadius}
 use Rattle.definition.specs.Request.{Requested, Measured}
 use Rattle.definition.specs.Run.{Run, done, refuse, ask, bind}
 use Rattle.definition.specs.Likelihood.{Rows, objective, evaluate, evaluationOf}
-use Rattle.definition.specs.Mesh.{notConverged, Poll, Pass, Turn, evaluates, ended, Looked, moved, noneMoved, look, directions, onLook, ungained}
-use Rattle.definition.specs.Mesh.{begin, judged, turn, seen, stoppedAt, stopped, onTurn, poll, quarteredOf}
+use Rattle.definition.specs.Mesh.{notConverged, Poll, Pass, PollStep, evaluates, ended, Looked, moved, noneMoved, look, directions, onLook, ungained}
+use Rattle.definition.specs.Mesh.{begin, judged, pollStep, seen, stoppedAt, stopped, onPollStep, poll, quarteredOf}
 use Rattle.definition.specs.Fit.{Fit, Trial, accepted, exhausted, flatOf, trials, meshed, verified, verify, onTrial, evaluated, iterate, fitMap}
 use Rattle.definition.specs.Summary.{Finished}
 use Rattle.definition.specs.Whole.{checkedMeasured, checkedRequested, bandRows, baseline, concluded, banded, fitted, run, whole}
@@ -65,11 +65,11 @@ abbrev ShownPoll : Poll → Type 0
 ShownPoll r = Shown (r .convergence) (r .evaluations)
 
 -- a turn after n evaluations
-abbrev TurnShown : ℕ → Turn → Type 0
+abbrev TurnShown : ℕ → PollStep → Type 0
 TurnShown n (evaluates c s) = Level (s .radius) (s .smaller) × (s .evaluations ≡ n)
 TurnShown n (ended r) = n ≤ 1024 → ShownPoll r
 
-on-look-shown : (l : Looked) (n : ℕ) (none : Turn) (some : Point → List Point → Turn) → TurnShown n none
+on-look-shown : (l : Looked) (n : ℕ) (none : PollStep) (some : Point → List Point → PollStep) → TurnShown n none
     → ((c : Point) (ds : List Point) → TurnShown n (some c ds)) → TurnShown n (onLook l none some)
 on-look-shown noneMoved n none some h k = h
 on-look-shown (moved c ds) n none some h k = k c ds
@@ -100,8 +100,8 @@ judged-shown s l = go (materialOf (s .current) (s .best))
     go true = begin-shown (s .axis) (s .radius) (s .smaller) (s .bestPoint) (s .best) (s .evaluations) l
     go false = ungained-shown (s .axis) (s .radius) (s .smaller) (s .centre) (s .current) (s .best) (s .evaluations) l
 
-turn-shown : (s : Pass) → Level (s .radius) (s .smaller) → TurnShown (s .evaluations) (turn s)
-unfolding turn
+turn-shown : (s : Pass) → Level (s .radius) (s .smaller) → TurnShown (s .evaluations) (pollStep s)
+unfolding pollStep
 turn-shown s l = on-look-shown (look (s .radius) (s .centre) (s .remaining)) (s .evaluations) _ _ (judged-shown s l) (λ c ds. (l, refl))
 
 stopped-at-shown : (k : ℕ) (s : Pass) → Level (s .radius) k → s .evaluations ≡ 1024 → ShownPoll (stoppedAt k s)
@@ -131,7 +131,7 @@ level-tested radius smaller l =
         is-nine q = omega arith
     by (suc k) e = ne-eqb (l .before) 9 (λ q. omega arith) ∙ sym (ne-eqb (suc k) 0 (λ q. omega arith))
 
-turn-level : (s t : Pass) (c : Point) → Level (s .radius) (s .smaller) → turn s ≡ evaluates c t → Level (t .radius) (t .smaller)
+turn-level : (s t : Pass) (c : Point) → Level (s .radius) (s .smaller) → pollStep s ≡ evaluates c t → Level (t .radius) (t .smaller)
 turn-level s t c l e = subst (TurnShown (s .evaluations)) e (turn-shown s l) .0
 
 pub radius-tested : RadiusTested
@@ -145,8 +145,8 @@ radius-tested = record {
 }
 
 module _ (m : Measured) where
-  on-turn-shown : (n : ℕ) (go : Pass → Run Poll) (t : Turn) → TurnShown n t → n ≤ 1024
-      → ((s : Pass) → Level (s .radius) (s .smaller) → s .evaluations ≡ suc n → Every ShownPoll (go s)) → Every ShownPoll (onTurn m go t)
+  on-turn-shown : (n : ℕ) (go : Pass → Run Poll) (t : PollStep) → TurnShown n t → n ≤ 1024
+      → ((s : Pass) → Level (s .radius) (s .smaller) → s .evaluations ≡ suc n → Every ShownPoll (go s)) → Every ShownPoll (onPollStep m go t)
   unfolding seen
   on-turn-shown n go (ended r) h l k = every-done ShownPoll r (h l)
   on-turn-shown n go (evaluates c s) h l k = every-after ShownPoll (objective m c) _ (λ value. k (seen c value s) (h .0) (ap suc (h .1)))
@@ -155,7 +155,7 @@ module _ (m : Measured) where
   unfolding poll
   poll-shown zero s l e = every-done ShownPoll _ (stopped-shown s l (omega arith))
   poll-shown (suc left) s l e =
-      on-turn-shown (s .evaluations) (poll m left) (turn s) (turn-shown s l) (omega arith) (λ t k h. poll-shown left t k (omega arith))
+      on-turn-shown (s .evaluations) (poll m left) (pollStep s) (turn-shown s l) (omega arith) (λ t k h. poll-shown left t k (omega arith))
 
   -- ---- the fit
 

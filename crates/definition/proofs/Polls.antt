@@ -13,8 +13,8 @@ use Rattle.criteria.specs.Criteria.{materialOf}
 use Rattle.definition.specs.Request.{Measured}
 use Rattle.definition.specs.Run.{Run, done, bind, Reply, refused, entries, readingOf, answered, unless, require}
 use Rattle.definition.specs.Likelihood.{objectiveOf, valued, objective}
-use Rattle.definition.specs.Mesh.{Poll, notConverged, Pass, Turn, evaluates, ended, Looked, moved, noneMoved, look, directions, ungained, begin}
-use Rattle.definition.specs.Mesh.{judged, turn, seen, stoppedAt, stopped, onTurn, onLook, poll, quarteredOf}
+use Rattle.definition.specs.Mesh.{Poll, notConverged, Pass, PollStep, evaluates, ended, Looked, moved, noneMoved, look, directions, ungained, begin}
+use Rattle.definition.specs.Mesh.{judged, pollStep, seen, stoppedAt, stopped, onPollStep, onLook, poll, quarteredOf}
 use Rattle.definition.specs.Summary.{diagnosticsOf, reportOf}
 use Rattle.definition.specs.Laws.{Counted, PollCounted, FitEvaluations, radiusAfter, TenRadii}
 use Rattle.definition.specs.declared.Point.{Point}
@@ -22,11 +22,11 @@ use Rattle.definition.specs.declared.Point.{Point}
 -- ---- what a turn does not change
 
 -- the evaluations at a turn
-abbrev pub evaluationsOf : Turn → ℕ
+abbrev pub evaluationsOf : PollStep → ℕ
 evaluationsOf (evaluates c s) = s .evaluations
 evaluationsOf (ended r) = r .evaluations
 
-on-look : (l : Looked) (n : ℕ) (none : Turn) (some : Point → List Point → Turn) → evaluationsOf none ≡ n
+on-look : (l : Looked) (n : ℕ) (none : PollStep) (some : Point → List Point → PollStep) → evaluationsOf none ≡ n
     → ((c : Point) (ds : List Point) → evaluationsOf (some c ds) ≡ n)
     → evaluationsOf (onLook l none some) ≡ n
 on-look noneMoved n none some h k = h
@@ -55,8 +55,8 @@ judged-same s = go (materialOf (s .current) (s .best))
     go true = begin-same (s .axis) (s .radius) (s .smaller) (s .bestPoint) (s .best) (s .evaluations)
     go false = ungained-same (s .axis) (s .radius) (s .smaller) (s .centre) (s .current) (s .best) (s .evaluations)
 
-pub turn-same : (s : Pass) → evaluationsOf (turn s) ≡ s .evaluations
-unfolding turn
+pub turn-same : (s : Pass) → evaluationsOf (pollStep s) ≡ s .evaluations
+unfolding pollStep
 turn-same s = on-look (look (s .radius) (s .centre) (s .remaining)) (s .evaluations) _ _ (judged-same s) (λ c ds. refl)
 
 stopped-at-same : (n : ℕ) (s : Pass) → stoppedAt n s .evaluations ≡ s .evaluations
@@ -89,8 +89,8 @@ valued-counted m p (entries es) n f h = go (readingOf es .gap) (finite (objectiv
     go (suc i) b = tt
 
 module _ (m : Measured) where
-  on-turn-counted : (n : ℕ) (go : Pass → Run Poll) (t : Turn) → evaluationsOf t ≡ n → ((s : Pass) → s .evaluations ≡ suc n → Counted (suc n) (go s))
-      → Counted n (onTurn m go t)
+  on-turn-counted : (n : ℕ) (go : Pass → Run Poll) (t : PollStep) → evaluationsOf t ≡ n → ((s : Pass) → s .evaluations ≡ suc n → Counted (suc n) (go s))
+      → Counted n (onPollStep m go t)
   unfolding objective seen
   on-turn-counted n go (ended r) e h = e
   on-turn-counted n go (evaluates c s) e h = λ r. valued-counted m c r (suc n) _ (λ x. h _ (ap suc e))
@@ -98,7 +98,7 @@ module _ (m : Measured) where
   poll-from : (left : ℕ) (s : Pass) (n : ℕ) → s .evaluations ≡ n → Counted n (poll m left s)
   unfolding poll
   poll-from zero s n e = stopped-same s ∙ e
-  poll-from (suc left) s n e = on-turn-counted n (poll m left) (turn s) (turn-same s ∙ e) (λ t h. poll-from left t (suc n) h)
+  poll-from (suc left) s n e = on-turn-counted n (poll m left) (pollStep s) (turn-same s ∙ e) (λ t h. poll-from left t (suc n) h)
 
 pub poll-counted : PollCounted
 poll-counted m information centre current = poll-from m 1024 _ 0 refl

@@ -19,13 +19,13 @@ use Rattle.definition.specs.Run.{Run, ask, bind, Reply, refused, entries
 use Rattle.definition.specs.Host.{Host, play}
 use Rattle.definition.specs.Likelihood.{Rows, objectiveOf, valued, objective, bcMinus, bcPlus, mvMinus, mvPlus, truingJacobianRows, complete}
 use Rattle.definition.specs.Likelihood.{evaluate, evaluationOf}
-use Rattle.definition.specs.Mesh.{Poll, Pass, Turn, evaluates, ended, turn, onTurn, poll}
+use Rattle.definition.specs.Mesh.{Poll, Pass, PollStep, evaluates, ended, pollStep, onPollStep, poll}
 use Rattle.definition.specs.Fit.{Fit, Trial, accepted, exhausted, Step, unfit, to, stepOf, flatOf, onStep, trials, meshed, verified, verify, onTrial}
 use Rattle.definition.specs.Fit.{evaluated, iterate, fitMap}
 use Rattle.definition.specs.Summary.{Finished}
 use Rattle.definition.specs.Whole.{withinOf, faultyObservation, soundPriorOf, soundRequestedOf, faultyRequested, checkedPoint, checkedCount}
 use Rattle.definition.specs.Whole.{checkedMeasured, checkedRequested}
-use Rattle.definition.specs.Whole.{bandRows, baseline, concluded, banded, fitted, run, whole, Edit, putIn, takeOut, exchange, unlessMissing, asked, edit}
+use Rattle.definition.specs.Whole.{bandRows, baseline, concluded, banded, fitted, run, whole, Edit, putIn, takeOut, exchange, unlessMissing, editQuestions, edit}
 use Rattle.definition.specs.declared.Point.{Point}
 use Rattle.definition.specs.declared.Evaluation.{Evaluation}
 
@@ -172,14 +172,14 @@ module _ {Q : Point → Which → Type 0} (s : (p : Point) → Q p shots) where
       asks-trials zero damping = finishes
       asks-trials (suc n) damping = rw (← one-add) (asks-step n _ damping (stepOf p e damping) (asks-trials n))
 
-    asks-turn : (n : ℕ) (go : Pass → Run Poll) (t : Turn) → ((x : Pass) → Asks Q n (go x)) → Asks Q (1 + n) (onTurn m go t)
+    asks-turn : (n : ℕ) (go : Pass → Run Poll) (t : PollStep) → ((x : Pass) → Asks Q n (go x)) → Asks Q (1 + n) (onPollStep m go t)
     asks-turn n go (ended r) h = finishes
     asks-turn n go (evaluates c x) h = asks-bind (asks-objective m c) (λ value. h _)
 
     asks-poll : (n : ℕ) (x : Pass) → Asks Q n (poll m n x)
     unfolding poll
     asks-poll zero x = finishes
-    asks-poll (suc n) x = rw (← one-add) (asks-turn n _ (turn x) (asks-poll n))
+    asks-poll (suc n) x = rw (← one-add) (asks-turn n _ (pollStep x) (asks-poll n))
 
     asks-meshed : (p : Point) (current : Float) (iterations : ℕ) (rows : Rows) → Asks Q 1024 (meshed m p current iterations rows)
     unfolding meshed
@@ -269,8 +269,8 @@ every-new Q h (takeOut i) = tt
 every-new Q h (exchange i d) = λ p. h p (d .range)
 
 module _ {Q : Point → Which → Type 0} where
-  asks-asked : (c : Finished) (e : Edit) (place : ℕ) (d : Requested) → ((p : Point) → Q p (new (d .range))) → Asks Q 5 (asked c e place d)
-  unfolding asked
+  asks-asked : (c : Finished) (e : Edit) (place : ℕ) (d : Requested) → ((p : Point) → Q p (new (d .range))) → Asks Q 5 (editQuestions c e place d)
+  unfolding editQuestions
   asks-asked c e place d h =
       asks-bind {n = 0} (asks-rows (new (d .range)) h (c .fit .point)) (λ one. asks-after (asks-missing (one .gap) place) (λ u. finishes))
 

@@ -18,7 +18,7 @@ use Rattle.criteria.specs.Criteria.{atBoundOf}
 use Rattle.definition.specs.Constants.{firstRadius, leastRadius}
 use Rattle.definition.specs.Request.{Measured, Opening}
 use Rattle.definition.specs.Run.{Run, done, refuse, ask, Reply, Which}
-use Rattle.definition.specs.Mesh.{Convergence, notConverged, scaledGradient, objectiveMesh, Poll, Pass, evaluates, turn, seen, poll, firstPass, quarteredOf}
+use Rattle.definition.specs.Mesh.{Convergence, notConverged, scaledGradient, objectiveMesh, Poll, Pass, evaluates, pollStep, seen, poll, firstPass, quarteredOf}
 use Rattle.definition.specs.Fit.{found, polled}
 use Rattle.definition.specs.Summary.{interval95, Approximation, available, covarianceOf, correlationOf, approximationOf, Finished, reportOf}
 use Rattle.definition.specs.Whole.{noRows, bandRows, whole, Edit, edit}
@@ -97,7 +97,7 @@ pub record Level (radius : Float) (smaller : ℕ) : Type 0 where
 -- for the last radius, `radius <= 1e-7`, holds exactly where the countdown says that no smaller one is to come.
 pub record RadiusTested : Type 0 where
   pub first : (information : Symmetric2) (centre : Point) (current : Float) → let s = firstPass information centre current in Level (s .radius) (s .smaller)
-  pub next : (s t : Pass) (c : Point) → Level (s .radius) (s .smaller) → turn s ≡ evaluates c t → Level (t .radius) (t .smaller)
+  pub next : (s t : Pass) (c : Point) → Level (s .radius) (s .smaller) → pollStep s ≡ evaluates c t → Level (t .radius) (t .smaller)
   pub seen-same : (s : Pass) (c : Point) (value : Float) → Level (s .radius) (s .smaller) → Level (seen c value s .radius) (seen c value s .smaller)
   pub quartered : (radius : Float) (smaller : ℕ) → Level radius (suc smaller) → Level (quarteredOf radius) smaller
   pub tested : (radius : Float) (smaller : ℕ) → Level radius smaller → le radius leastRadius ≡ eqb smaller 0

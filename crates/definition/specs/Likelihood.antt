@@ -168,8 +168,8 @@ unfoldable pub sensitivityRatioOf : Float → Float → Float
 sensitivityRatioOf mv bc = cond (lt zero64 mv) (rootOf (bc ⊘ mv)) zero64
 
 -- the sums with the priors
-unfoldable pub finishedOf : TruingPriorsV1 → Point → Sums → Evaluation
-finishedOf q p s =
+unfoldable pub fromSums : TruingPriorsV1 → Point → Sums → Evaluation
+fromSums q p s =
     let mvPrior = q .«muzzle_velocity_fps» in
     let bcPrior = q .«ballistic_coefficient» in
     let data0 : Symmetric2 = record { a00 = s .a00; a01 = s .a01; a11 = s .a11 } in
@@ -186,7 +186,7 @@ finishedOf q p s =
     }
 
 abbrev pub evaluationOf : Measured → Point → Rows → Evaluation
-evaluationOf m p r = finishedOf (m .priors) p (sumsOf p (m .observations) (rowsOf r))
+evaluationOf m p r = fromSums (m .priors) p (sumsOf p (m .observations) (rowsOf r))
 
 -- rows without a gap; a gap is refused by this number
 unfoldable pub complete : ℕ → Rows → Run Rows

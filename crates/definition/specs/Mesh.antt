@@ -69,9 +69,9 @@ pub record Pass : Type 0 where
   pub evaluations : ℕ
 
 -- what comes next in the poll: a candidate to be evaluated, or its end
-pub data Turn : Type 0 where
-  evaluates : Point → Pass → Turn
-  ended : Poll → Turn
+pub data PollStep : Type 0 where
+  evaluates : Point → Pass → PollStep
+  ended : Poll → PollStep
 
 -- the next direction that leads to another point than the centre; an unmoved candidate is skipped and not counted
 pub data Looked : Type 0 where
@@ -98,7 +98,7 @@ passAt axis radius smaller centre current evaluations remaining = record {
   evaluations = evaluations;
 }
 
-abbrev pub onLook : Looked → Turn → (Point → List Point → Turn) → Turn
+abbrev pub onLook : Looked → PollStep → (Point → List Point → PollStep) → PollStep
 onLook noneMoved none some = none
 onLook (moved c ds) none some = some c ds
 
@@ -108,23 +108,23 @@ searched radius centre current best evaluations =
     record { point = centre; convergence = objectiveMesh radius (maxOf (current ⊖ best) zero64); evaluations = evaluations }
 
 -- a pass from its first direction on; `none` is what follows where every candidate is unmoved
-abbrev pub fresh : Direction → Float → ℕ → Point → Float → ℕ → Turn → Turn
-fresh axis radius smaller centre current n none =
+abbrev pub fromFirst : Direction → Float → ℕ → Point → Float → ℕ → PollStep → PollStep
+fromFirst axis radius smaller centre current n none =
     onLook (look radius centre (directions axis)) none (λ c ds. evaluates c (passAt axis radius smaller centre current n ds))
 
 -- after a pass without a material gain: the next radius, or the end
-unfoldable pub ungained : Direction → Float → ℕ → Point → Float → Float → ℕ → Turn
+unfoldable pub ungained : Direction → Float → ℕ → Point → Float → Float → ℕ → PollStep
 ungained axis radius zero centre current best n = ended (searched radius centre current best n)
 ungained axis radius (suc smaller) centre current best n =
     let r = quarteredOf radius in
-    fresh axis r smaller centre current n (ungained axis r smaller centre current current n)
+    fromFirst axis r smaller centre current n (ungained axis r smaller centre current current n)
 
 -- a new pass: where every candidate is unmoved, the best is the current one, and nothing is gained
-unfoldable pub begin : Direction → Float → ℕ → Point → Float → ℕ → Turn
-begin axis radius smaller centre current n = fresh axis radius smaller centre current n (ungained axis radius smaller centre current current n)
+unfoldable pub begin : Direction → Float → ℕ → Point → Float → ℕ → PollStep
+begin axis radius smaller centre current n = fromFirst axis radius smaller centre current n (ungained axis radius smaller centre current current n)
 
-abbrev pub rest : Pass → List Point → Pass
-rest s ds = record {
+abbrev pub withRemaining : Pass → List Point → Pass
+withRemaining s ds = record {
   axis = s .axis;
   radius = s .radius;
   smaller = s .smaller;
@@ -137,13 +137,13 @@ rest s ds = record {
 }
 
 -- the pass has looked in all eight directions: a material gain moves the centre and keeps radius and directions
-unfoldable pub judged : Pass → Turn
+unfoldable pub judged : Pass → PollStep
 judged s = cond (materialOf (s .current) (s .best))
     (begin (s .axis) (s .radius) (s .smaller) (s .bestPoint) (s .best) (s .evaluations))
     (ungained (s .axis) (s .radius) (s .smaller) (s .centre) (s .current) (s .best) (s .evaluations))
 
-unfoldable pub turn : Pass → Turn
-turn s = onLook (look (s .radius) (s .centre) (s .remaining)) (judged s) (λ c ds. evaluates c (rest s ds))
+unfoldable pub pollStep : Pass → PollStep
+pollStep s = onLook (look (s .radius) (s .centre) (s .remaining)) (judged s) (λ c ds. evaluates c (withRemaining s ds))
 
 -- a candidate's objective is there: it is the best if it is below the best so far
 unfoldable pub seen : Point → Float → Pass → Pass
@@ -170,16 +170,16 @@ unfoldable pub stopped : Pass → Poll
 stopped s = cond (materialOf (s .current) (s .best)) (record { point = s .bestPoint; convergence = notConverged; evaluations = s .evaluations }) (stoppedAt (s .smaller) s)
 
 module _ (m : Measured) where
-  abbrev pub onTurn : (Pass → Run Poll) → Turn → Run Poll
-  onTurn go (ended r) = done r
-  onTurn go (evaluates c s) = do
+  abbrev pub onPollStep : (Pass → Run Poll) → PollStep → Run Poll
+  onPollStep go (ended r) = done r
+  onPollStep go (evaluates c s) = do
     value ← objective m c
     go (seen c value s)
 
   -- the poll with so many evaluations left
   unfoldable pub poll : ℕ → Pass → Run Poll
   poll zero s = done (stopped s)
-  poll (suc left) s = onTurn (poll left) (turn s)
+  poll (suc left) s = onPollStep (poll left) (pollStep s)
 
 abbrev pub firstPass : Symmetric2 → Point → Float → Pass
 firstPass information centre current =

@@ -166,8 +166,8 @@ unlessMissing zero place = done tt
 unlessMissing (suc gap) place = refuse 13 place
 
 -- the five questions about the new distance alone
-unfoldable pub asked : Finished → Edit → ℕ → Requested → Run Finished
-asked c e place d = do
+unfoldable pub editQuestions : Finished → Edit → ℕ → Requested → Run Finished
+editQuestions c e place d = do
   one ← truingJacobianRows (c .fit .point) (new (d .range))
   unlessMissing (one .gap) place
   done (renewed c e one)
@@ -177,8 +177,8 @@ unfoldable pub edit : Finished → Edit → Run Finished
 edit c (putIn i d) = do
   require (ltb (length (c .requested)) 64) 6 0
   require (soundRequestedOf d) 7 i
-  asked c (putIn i d) i d
+  editQuestions c (putIn i d) i d
 edit c (takeOut i) = done (renewed c (takeOut i) noRows)
 edit c (exchange i d) = do
   require (soundRequestedOf d) 7 i
-  asked c (exchange i d) i d
+  editQuestions c (exchange i d) i d

@@ -23,8 +23,8 @@ use Rattle.fresh_outcome.proofs.Reports.{only-band}
 use Rattle.definition.specs.Session.{head, listOf, sizesFor, wants, rightLength}
 use Rattle.definition.specs.declared.Step.{Step}
 use Rattle.definition.specs.declared.Step.the-variants as Step
-use Rattle.demands.specs.Calls.{Call, reply, refusePoint, change, resume, Editing, At, first, rest, keptBy, finishedBy, finishedAt, reportBy, Taking, declines, takes, takingReply, takingRefusal, takingEdit, stance, withReply, withEdit, taken, unlessDeclined, after, due, dueTo}
-use Rattle.demands.specs.Book.{sizeOf, heard, Where, inRun, idle, inEdit, Book, isReport, opened, reports, ruledReply, ruledRefusal, ruledEdit, ruled, standsBy, settled, editHeard, runHeard, replyHeard, callHeard, booked, Question, aboutOf, questionIn, Trail, repliesWith, begun, followed, Replies, Comes, FromSolver, saidBy, reportFrom, Ends, Edits, standing, Holds}
+use Rattle.demands.specs.Calls.{Call, reply, refusePoint, change, resume, Editing, At, first, restAt, keptBy, finishedBy, finishedAt, reportBy, Taking, declines, takes, takingReply, takingRefusal, takingEdit, stance, withReply, withEdit, afterTaken, unlessDeclined, afterCall, due, dueTo}
+use Rattle.demands.specs.Book.{sizeOf, heard, Where, inRun, idle, inEdit, Book, isReport, opened, reports, ruledReply, ruledRefusal, ruledEdit, ruled, standsBy, settled, editHeard, runHeard, replyHeard, callHeard, booked, Question, aboutOf, questionIn, Trail, repliesWith, begun, followed, Replies, Comes, FromSolver, saidBy, reportFrom, Ends, Edits, standingReport, Holds}
 
 -- ---- in general
 
@@ -68,7 +68,7 @@ resume-more (ask p′ w′ k′) (x ∷ rs) r p w k e = resume-more (k′ x) rs 
 
 module _ (o : Opening) (run : List Reply) where
   pub rest-more : (last : Option Editing) (r : Reply) (p : Point) (w : Which) (k : Reply → Run Finished)
-      → rest o (record { run = run; last = last }) ≡ ask p w k → rest o (withReply run last r) ≡ k r
+      → restAt o (record { run = run; last = last }) ≡ ask p w k → restAt o (withReply run last r) ≡ k r
   rest-more none r p w k e = resume-more (whole o) run r p w k e
   rest-more (some x) r p w k e = resume-more (edit (x .of) (x .made)) (x .replies) r p w k e
 
@@ -122,7 +122,7 @@ module _ (σ : Solver) (o : Opening) where
   StandsBy kept left u = Stands kept left (u .book .list) (u .asked) (u .replies) (u .book .at)
 
 pub record Agrees (σ : Solver) (o : Opening) (t : At) (u : Trail) : Type 0 where
-  is : StandsBy σ o (keptBy (t .last)) (rest o t) u
+  is : StandsBy σ o (keptBy (t .last)) (restAt o t) u
 
 -- ---- what comes next is heard
 
@@ -277,14 +277,14 @@ module _ (σ : Solver) (o : Opening) where
 
 module _ (σ : Solver) (o : Opening) (t : At) where
   -- a reply from the solver is the host's, so what is left comes to what it came to
-  goes-on : {most : ℕ} (h : Host) (at : ℕ → Where) (n : ℕ) (asked : Option Question) (r : Reply) (left : Run Finished) → rest o t ≡ left → Opens σ o at n left asked
+  goes-on : {most : ℕ} (h : Host) (at : ℕ → Where) (n : ℕ) (asked : Option Question) (r : Reply) (left : Run Finished) → restAt o t ≡ left → Opens σ o at n left asked
       → Asks (Suits σ o h at) most left → Replies σ asked r
-      → Asks (Suits σ o h at) most (rest o (withReply (t .run) (t .last) r)) × (play h (rest o (withReply (t .run) (t .last) r)) ≡ play h left)
-      × (suc (questions h (rest o (withReply (t .run) (t .last) r))) ≡ questions h left)
+      → Asks (Suits σ o h at) most (restAt o (withReply (t .run) (t .last) r)) × (play h (restAt o (withReply (t .run) (t .last) r)) ≡ play h left)
+      × (suc (questions h (restAt o (withReply (t .run) (t .last) r))) ≡ questions h left)
   goes-on h at n asked r (done c) e s w q = not-none (sym (s .hears))
   goes-on h at n asked r (refuse m i) e s w q = not-none (sym (s .hears))
   goes-on {most} h at n asked r (ask p v k) e s w q =
-      let next : rest o (withReply (t .run) (t .last) r) ≡ k r = rest-more o (t .run) (t .last) r p v k e in
+      let next : restAt o (withReply (t .run) (t .last) r) ≡ k r = rest-more o (t .run) (t .last) r p v k e in
       let same : r ≡ h p v = subst (λ (x : Option Question). Replies σ x r) (s .asks) q ∙ sym (asks-now w n) in
       (subst (Asks (Suits σ o h at) most) (sym next) (asks-next w r), ap (play h) next ∙ ap (λ (x : Reply). play h (k x)) same, ap (λ (x : Run Finished). suc (questions h x)) next ∙ ap (λ (x : Reply). suc (questions h (k x))) same)
 
@@ -292,23 +292,23 @@ module _ (σ : Solver) (o : Opening) (t : At) (u : Trail) (a : Agrees σ o t u) 
   abbrev list : List Requested
   list = u .book .list
 
-  stands-at : (at : Where) → u .book .at ≡ at → Stands σ o (keptBy (t .last)) (rest o t) list (u .asked) (u .replies) at
-  stands-at at e = subst (Stands σ o (keptBy (t .last)) (rest o t) list (u .asked) (u .replies)) e (a .is)
+  stands-at : (at : Where) → u .book .at ≡ at → Stands σ o (keptBy (t .last)) (restAt o t) list (u .asked) (u .replies) at
+  stands-at at e = subst (Stands σ o (keptBy (t .last)) (restAt o t) list (u .asked) (u .replies)) e (a .is)
 
   -- a reply to the run
   run-replied : (n : ℕ) → u .book .at ≡ inRun n → (r : Reply) → Replies σ (u .asked) r
-      → RunGoes σ o (keptBy (withReply (t .run) (t .last) r .last)) (rest o (withReply (t .run) (t .last) r)) list (suc (u .replies))
+      → RunGoes σ o (keptBy (withReply (t .run) (t .last) r .last)) (restAt o (withReply (t .run) (t .last) r)) list (suc (u .replies))
   run-replied n e r q =
       let s = stands-at (inRun n) e in
-      let g = goes-on σ o t (hostOf σ o) inRun n (u .asked) r (rest o t) refl (s .1) (s .0 .suits) q in
+      let g = goes-on σ o t (hostOf σ o) inRun n (u .asked) r (restAt o t) refl (s .1) (s .0 .suits) q in
       record { none-kept = kept-more o (t .run) (t .last) r ∙ s .0 .none-kept; listed = s .0 .listed; suits = g .0; plays = g .1 ∙ s .0 .plays; counted = omega (arith, s .0 .counted, g .2) }
 
   -- a reply to an edit
   edit-replied : (n : ℕ) (e : Edit) → u .book .at ≡ inEdit n e → (r : Reply) → Replies σ (u .asked) r
-      → EditGoes σ o e (keptBy (withReply (t .run) (t .last) r .last)) (rest o (withReply (t .run) (t .last) r)) list (suc (u .replies))
+      → EditGoes σ o e (keptBy (withReply (t .run) (t .last) r .last)) (restAt o (withReply (t .run) (t .last) r)) list (suc (u .replies))
   edit-replied n e i r q =
       let s = stands-at (inEdit n e) i in
-      let g = goes-on σ o t (hostOf σ (withList o list)) (λ n. inEdit n e) n (u .asked) r (rest o t) refl (s .1) (s .0 .suits) q in
+      let g = goes-on σ o t (hostOf σ (withList o list)) (λ n. inEdit n e) n (u .asked) r (restAt o t) refl (s .1) (s .0 .suits) q in
       record {
         was = s .0 .was;
         was-kept = kept-more o (t .run) (t .last) r ∙ s .0 .was-kept;
@@ -327,12 +327,12 @@ module _ (σ : Solver) (o : Opening) (t : At) (u : Trail) (a : Agrees σ o t u) 
 
   -- an edit, made where this finished run stands
   abbrev Changed : Edit → Option Finished → Type 0
-  Changed e q = EditGoes σ o e (keptBy (withEdit t q e .last)) (rest o (withEdit t q e)) list 0
+  Changed e q = EditGoes σ o e (keptBy (withEdit t q e .last)) (restAt o (withEdit t q e)) list 0
 
   changed : (e : Edit) → ruledEdit σ o (u .book) e ≡ takes → Changed e (finishedAt o t)
   changed e = by (u .book .at) refl
     where
-      by-outcome : (f : Outcome Finished) → fresh σ o list ≡ f → Rests σ o (keptBy (t .last)) (rest o t) list → reports σ o (o .requested) ≡ true
+      by-outcome : (f : Outcome Finished) → fresh σ o list ≡ f → Rests σ o (keptBy (t .last)) (restAt o t) list → reports σ o (o .requested) ≡ true
           → placed e (length list) ≡ true → Changed e (finishedAt o t)
       by-outcome (ends c) f s b p =
           let is : finishedAt o t ≡ some c = s .finished ∙ rw (b, f) in
@@ -340,7 +340,7 @@ module _ (σ : Solver) (o : Opening) (t : At) (u : Trail) (a : Agrees σ o t u) 
           (record { was = c; was-kept = refl; before = f; reported = b; fits = p; suits = suits-new e c; plays = edit-fresh σ o list c e f p; counted = omega arith })
       by-outcome (refuses n i) f s b p = not-both (sym (s .reported b) ∙ ap isReport f)
 
-      by-report : (b : Bool) → reports σ o (o .requested) ≡ b → Rests σ o (keptBy (t .last)) (rest o t) list
+      by-report : (b : Bool) → reports σ o (o .requested) ≡ b → Rests σ o (keptBy (t .last)) (restAt o t) list
           → cond b (cond (placed e (length list)) takes (declines 15)) (declines 14) ≡ takes → Changed e (finishedAt o t)
       by-report true b s p = by-outcome (fresh σ o list) refl s b (if-takes (placed e (length list)) 15 p)
       by-report false b s p = apart p
@@ -356,22 +356,22 @@ module _ (σ : Solver) (o : Opening) (t : At) (u : Trail) (a : Agrees σ o t u) 
   replies-so x r e q = subst (λ (y : Taking). Comes σ y (u .asked) r) e q
 
   run-taken : (x : Call) → FromSolver σ o u x → ruled σ o (u .book) x ≡ takes → (n : ℕ) → u .book .at ≡ inRun n
-      → RunGoes σ o (keptBy (taken o t x .last)) (rest o (taken o t x)) list (repliesWith (u .replies) x)
+      → RunGoes σ o (keptBy (afterTaken o t x .last)) (restAt o (afterTaken o t x)) list (repliesWith (u .replies) x)
   run-taken (reply ds ms) q e n i = run-replied n i (entries (entriesOf ds ms)) (replies-so _ _ e q)
   run-taken refusePoint q e n i = run-replied n i refused (replies-so _ _ e q)
   run-taken (change f) q e n i =
       apart (sym (ap (λ (at : Where). cond (standsBy σ o at) (cond (placed f (length list)) takes (declines 15)) (declines 14)) i) ∙ e)
 
   edit-taken : (x : Call) → FromSolver σ o u x → ruled σ o (u .book) x ≡ takes → (e : Edit) → Edits (u .book) x e
-      → EditGoes σ o e (keptBy (taken o t x .last)) (rest o (taken o t x)) list (repliesWith (u .replies) x)
+      → EditGoes σ o e (keptBy (afterTaken o t x .last)) (restAt o (afterTaken o t x)) list (repliesWith (u .replies) x)
   edit-taken (reply ds ms) q e f i = edit-replied (i .0) f (i .1) (entries (entriesOf ds ms)) (replies-so _ _ e q)
   edit-taken refusePoint q e f i = edit-replied (i .0) f (i .1) refused (replies-so _ _ e q)
   edit-taken (change g) q e f i =
-      subst (λ (f : Edit). EditGoes σ o f (keptBy (taken o t (change g) .last)) (rest o (taken o t (change g))) list 0) i (changed g e)
+      subst (λ (f : Edit). EditGoes σ o f (keptBy (afterTaken o t (change g) .last)) (restAt o (afterTaken o t (change g))) list 0) i (changed g e)
 
   -- a taken call leads to where this book stands
   abbrev Leads : Call → (Option ℕ → Book) → Type 0
-  Leads x b = let left = rest o (taken o t x) in StandsBy σ o (keptBy (taken o t x .last)) left (noted o (b (heard o (head left))) (head left) (repliesWith (u .replies) x))
+  Leads x b = let left = restAt o (afterTaken o t x) in StandsBy σ o (keptBy (afterTaken o t x .last)) left (noted o (b (heard o (head left))) (head left) (repliesWith (u .replies) x))
 
   -- where a reply is taken, the run has a question open, or an edit has
   reply-leads : (x : Call) → FromSolver σ o u x → ruled σ o (u .book) x ≡ takes → ((n : ℕ) (e : Edit) → u .book .at ≡ inEdit n e → Edits (u .book) x e)
@@ -379,14 +379,14 @@ module _ (σ : Solver) (o : Opening) (t : At) (u : Trail) (a : Agrees σ o t u) 
   reply-leads x q e edits closed = by (u .book .at) refl
     where
       by : (at : Where) → u .book .at ≡ at → Leads x (replyHeard σ o at list)
-      by (inRun n) i = run-heard σ o _ (rest o (taken o t x)) list _ (run-taken x q e n i)
+      by (inRun n) i = run-heard σ o _ (restAt o (afterTaken o t x)) list _ (run-taken x q e n i)
       by idle i = apart (sym (closed i) ∙ e)
-      by (inEdit n f) i = edit-heard σ o f _ (rest o (taken o t x)) list _ (edit-taken x q e f (edits n f i))
+      by (inEdit n f) i = edit-heard σ o f _ (restAt o (afterTaken o t x)) list _ (edit-taken x q e f (edits n f i))
 
   leads : (x : Call) → FromSolver σ o u x → ruled σ o (u .book) x ≡ takes → Leads x (callHeard σ o (u .book) x)
   leads (reply ds ms) q e = reply-leads (reply ds ms) q e (λ n f i. (n, i)) (ap (λ (at : Where). ruledReply σ o at ds ms))
   leads refusePoint q e = reply-leads refusePoint q e (λ n f i. (n, i)) (ap (ruledRefusal σ o))
-  leads (change f) q e = edit-heard σ o f _ (rest o (taken o t (change f))) list _ (edit-taken (change f) q e f refl)
+  leads (change f) q e = edit-heard σ o f _ (restAt o (afterTaken o t (change f))) list _ (edit-taken (change f) q e f refl)
 
 -- ---- the theorems
 
@@ -397,34 +397,34 @@ agrees-first σ o = record {
 }
 
 -- the report that stands by the definition stands by the book
-pub stands-by : (σ : Solver) (o : Opening) (t : At) (u : Trail) → Agrees σ o t u → reportBy (finishedAt o t) ≡ standing σ o (u .book)
-stands-by σ o t u a = reads-so σ o (keptBy (t .last)) (rest o t) (u .book .list) (u .asked) (u .replies) (u .book .at) (a .is)
+pub stands-by : (σ : Solver) (o : Opening) (t : At) (u : Trail) → Agrees σ o t u → reportBy (finishedAt o t) ≡ standingReport σ o (u .book)
+stands-by σ o t u a = reads-so σ o (keptBy (t .last)) (restAt o t) (u .book .list) (u .asked) (u .replies) (u .book .at) (a .is)
 
 pub opened-stops : (σ : Solver) (o : Opening) → (heard o (head (whole o)) ≡ none) ↔ (0 ≡ questions (hostOf σ o) (whole o))
 opened-stops σ o = stops-so σ o (hostOf σ o) (whole o) 0 _ (first-goes σ o .counted)
 
 pub agrees-opened : (σ : Solver) (o : Opening)
     → (heard o (head (whole o)) ≡ none → Ends (fresh σ o (o .requested)) none (head (whole o)) (λ p. reportBy (finishedAt o first) ≡ p))
-    × (reportBy (finishedAt o first) ≡ standing σ o (opened o (heard o (head (whole o)))))
+    × (reportBy (finishedAt o first) ≡ standingReport σ o (opened o (heard o (head (whole o)))))
 agrees-opened σ o =
     (ends-so σ o (hostOf σ o) none (whole o) (fresh σ o (o .requested)) none (first-goes σ o .plays) refl, stands-by σ o first (begun o (head (whole o))) (agrees-first σ o))
 
 pub agrees-ruled : (σ : Solver) (o : Opening) (t : At) (u : Trail) → Agrees σ o t u → (x : Call) → ruled σ o (u .book) x ≡ stance o t x
-agrees-ruled σ o t u a (reply ds ms) = reply-so σ o ds ms (keptBy (t .last)) (rest o t) (u .book .list) (u .asked) (u .replies) (u .book .at) (a .is)
-agrees-ruled σ o t u a refusePoint = refusal-so σ o (keptBy (t .last)) (rest o t) (u .book .list) (u .asked) (u .replies) (u .book .at) (a .is)
-agrees-ruled σ o t u a (change e) = edit-so σ o e (keptBy (t .last)) (rest o t) (u .book .list) (u .asked) (u .replies) (u .book .at) (a .is)
+agrees-ruled σ o t u a (reply ds ms) = reply-so σ o ds ms (keptBy (t .last)) (restAt o t) (u .book .list) (u .asked) (u .replies) (u .book .at) (a .is)
+agrees-ruled σ o t u a refusePoint = refusal-so σ o (keptBy (t .last)) (restAt o t) (u .book .list) (u .asked) (u .replies) (u .book .at) (a .is)
+agrees-ruled σ o t u a (change e) = edit-so σ o e (keptBy (t .last)) (restAt o t) (u .book .list) (u .asked) (u .replies) (u .book .at) (a .is)
 
 module _ (σ : Solver) (o : Opening) (t : At) (u : Trail) (a : Agrees σ o t u) (x : Call) (q : FromSolver σ o u x) where
   abbrev placeBy : Taking → At
-  placeBy y = unlessDeclined y t (taken o t x)
+  placeBy y = unlessDeclined y t (afterTaken o t x)
 
   abbrev saidTo : Taking → Step
-  saidTo y = due y (rest o (placeBy y))
+  saidTo y = due y (restAt o (placeBy y))
 
   abbrev trailBy : Taking → Step → Trail
   trailBy y said = unlessDeclined y u (noted o (unlessDeclined y (u .book) (callHeard σ o (u .book) x (heard o said))) said (repliesWith (u .replies) x))
 
-  next : Agrees σ o (after o t x) (followed σ o u x (dueTo o t x))
+  next : Agrees σ o (afterCall o t x) (followed σ o u x (dueTo o t x))
   next = subst (λ (y : Taking). Agrees σ o (placeBy (stance o t x)) (trailBy y (saidTo (stance o t x)))) (sym (agrees-ruled σ o t u a x)) (by (stance o t x) refl)
     where
       by : (y : Taking) → stance o t x ≡ y → Agrees σ o (placeBy y) (trailBy y (saidTo y))
@@ -437,7 +437,7 @@ module _ (σ : Solver) (o : Opening) (t : At) (u : Trail) (a : Agrees σ o t u) 
   booked-so takes said = refl
 
   -- what holds of the call as taken
-  as-taken : (P : At → Step → Type 0) → ruled σ o (u .book) x ≡ takes → P (taken o t x) (head (rest o (taken o t x))) → P (after o t x) (dueTo o t x)
+  as-taken : (P : At → Step → Type 0) → ruled σ o (u .book) x ≡ takes → P (afterTaken o t x) (head (restAt o (afterTaken o t x))) → P (afterCall o t x) (dueTo o t x)
   as-taken P e h = subst (λ (y : Taking). P (placeBy y) (saidTo y)) (sym (sym (agrees-ruled σ o t u a x) ∙ e)) h
 
   abbrev EndsSo : Outcome Finished → Option Report → At → Step → Type 0
@@ -446,11 +446,11 @@ module _ (σ : Solver) (o : Opening) (t : At) (u : Trail) (a : Agrees σ o t u) 
   abbrev StopsSo : ℕ → At → Step → Type 0
   StopsSo all s said = (heard o said ≡ none) ↔ (repliesWith (u .replies) x ≡ all)
 
-  holds : Holds σ o u x (dueTo o t x) (λ p. reportBy (finishedAt o (after o t x)) ≡ p)
+  holds : Holds σ o u x (dueTo o t x) (λ p. reportBy (finishedAt o (afterCall o t x)) ≡ p)
   holds =
       let list = u .book .list in
-      let kept = keptBy (taken o t x .last) in
-      let left = rest o (taken o t x) in
+      let kept = keptBy (afterTaken o t x .last) in
+      let left = restAt o (afterTaken o t x) in
       let then = followed σ o u x (dueTo o t x) in
       let b : booked σ o (u .book) x (heard o (dueTo o t x)) ≡ then .book = booked-so (ruled σ o (u .book) x) (dueTo o t x) in
       record {
@@ -470,25 +470,25 @@ module _ (σ : Solver) (o : Opening) (t : At) (u : Trail) (a : Agrees σ o t u) 
             let was = reportFrom none (fresh σ o list) in
             as-taken (EndsSo (fresh σ o (edited f list)) was) e
             (ends-so σ o (hostOf σ (withList o list)) kept left (fresh σ o (edited f list)) was (g .plays) (ap reportBy (g .was-kept) ∙ ap (reportFrom none) (sym (g .before))));
-        stands = stands-by σ o (after o t x) then next ∙ ap (standing σ o) (sym b);
+        stands = stands-by σ o (afterCall o t x) then next ∙ ap (standingReport σ o) (sym b);
         reported = λ h.
             let is : standsBy σ o (then .book .at) ≡ true = ap (λ (c : Book). standsBy σ o (c .at)) (sym b) ∙ h in
             ap (λ (c : Book). reports σ o (c .list)) b
-            ∙ reported-so σ o (keptBy (after o t x .last)) (rest o (after o t x)) (then .book .list) (then .asked) (then .replies) (then .book .at) (next .is) is;
+            ∙ reported-so σ o (keptBy (afterCall o t x .last)) (restAt o (afterCall o t x)) (then .book .list) (then .asked) (then .replies) (then .book .at) (next .is) is;
       }
 
 pub agrees-next : (σ : Solver) (o : Opening) (t : At) (u : Trail) → Agrees σ o t u → (x : Call) → FromSolver σ o u x
-    → Agrees σ o (after o t x) (followed σ o u x (dueTo o t x))
+    → Agrees σ o (afterCall o t x) (followed σ o u x (dueTo o t x))
 agrees-next σ o t u a x q = next σ o t u a x q
 
 pub agrees-holds : (σ : Solver) (o : Opening) (t : At) (u : Trail) → Agrees σ o t u → (x : Call) → FromSolver σ o u x
-    → Holds σ o u x (dueTo o t x) (λ p. reportBy (finishedAt o (after o t x)) ≡ p)
+    → Holds σ o u x (dueTo o t x) (λ p. reportBy (finishedAt o (afterCall o t x)) ≡ p)
 agrees-holds σ o t u a x q = holds σ o t u a x q
 
 -- where an edit ends by the book's rules, what is new in the report that stands
 pub agrees-changes : (σ : Solver) (o : Opening) (t : At) (u : Trail) → Agrees σ o t u → (x : Call) → FromSolver σ o u x
     → (e : Edit) → Edits (u .book) x e → ruled σ o (u .book) x ≡ takes → heard o (dueTo o t x) ≡ none
-    → Ended σ o e (keptBy (after o t x .last)) (reportBy (finishedAt o (after o t x))) (dueTo o t x)
+    → Ended σ o e (keptBy (afterCall o t x .last)) (reportBy (finishedAt o (afterCall o t x))) (dueTo o t x)
 agrees-changes σ o t u a x q e i r =
     as-taken σ o t u a x q (λ s said. heard o said ≡ none → Ended σ o e (keptBy (s .last)) (reportBy (finishedAt o s)) said) r
-    (changes-so σ o e (keptBy (taken o t x .last)) (rest o (taken o t x)) (u .book .list) _ (edit-taken σ o t u a x q r e i))
+    (changes-so σ o e (keptBy (afterTaken o t x .last)) (restAt o (afterTaken o t x)) (u .book .list) _ (edit-taken σ o t u a x q r e i))

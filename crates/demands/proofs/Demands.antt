@@ -36,8 +36,8 @@ use Rattle.definition.specs.Session.{Sized}
 use Rattle.editing.proofs.Contracts.{Stands, Declines, entriesTaken, refusalTaken, editTaken, Opened, Replied, PointRefused, Edited}
 use Rattle.editing.specs.declared.Session.{Session}
 use Rattle.editing.specs.declared.Answer.{Answer}
-use Rattle.demands.specs.Calls.{Call, reply, refusePoint, change, resume, Editing, At, first, restBy, rest, keptBy, finishedBy, finishedAt, reportBy, Taking, declines, takes, takingReply, takingRefusal, takingEdit, stance, withReply, withEdit, taken, unlessDeclined, after, due, dueTo}
-use Rattle.demands.specs.Book.{heard, opened, ruled, Ends, Edits, standing as standsWith, Holds, Trail, begun, followed, FromSolver}
+use Rattle.demands.specs.Calls.{Call, reply, refusePoint, change, resume, Editing, At, first, restBy, restAt, keptBy, finishedBy, finishedAt, reportBy, Taking, declines, takes, takingReply, takingRefusal, takingEdit, stance, withReply, withEdit, afterTaken, unlessDeclined, afterCall, due, dueTo}
+use Rattle.demands.specs.Book.{heard, opened, ruled, Ends, Edits, standingReport as standsWith, Holds, Trail, begun, followed, FromSolver}
 use Rattle.demands.specs.Demands as stated
 use Rattle.demands.specs.Demands.{Made, Meets, Chained, Throughout, ReadsAs, checked, OpensProperly, countedSaid, mostOf, EndsProperly, Demand1, OpensAsDefined, AsDefined, Demand2, Changes, editedFrom, nextTrail, AllFrom, OpensFresh, EndsFresh, beforeEdit, Along, Demand3}
 use Rattle.demands.specs.Example as example
@@ -103,7 +103,7 @@ few-replies c (takeOut i) [] p w k e = let z : _≡_ {A = ℕ} 0 1 = cc in absur
 few-replies c (takeOut i) (r ∷ rs) p w k e = let z : _≡_ {A = ℕ} 0 1 = cc in absurd (omega arith)
 few-replies c (exchange i d) rs p w k e = omega (arith, count-of-edit c (exchange i d) rs, asked-after (edit c (exchange i d)) rs p w k e)
 
-edit-asks : (o : Opening) (t : At) (x : Editing) → t .last ≡ some x → (mv bc : Float) (list : Distances) → head (rest o t) ≡ Step.Question mv bc list → length (x .replies) < mostOf (x .made)
+edit-asks : (o : Opening) (t : At) (x : Editing) → t .last ≡ some x → (mv bc : Float) (list : Distances) → head (restAt o t) ≡ Step.Question mv bc list → length (x .replies) < mostOf (x .made)
 edit-asks o t x l mv bc list q =
     by (resume (edit (x .of) (x .made)) (x .replies)) refl (subst (λ (y : Option Editing). head (restBy o (t .run) y) ≡ Step.Question mv bc list) l q)
   where
@@ -131,7 +131,7 @@ report-after kept (ask p w k) = refl
 -- ---- the invariant
 
 inv-reads : (o : Opening) (t : At) (s : Session) → Inv o t s → ReadsAs s (reportBy (finishedAt o t))
-inv-reads o t s h = reads-as s (reportBy (finishedAt o t)) (ap reportIn (h .leads) ∙ report-after (keptBy (t .last)) (rest o t))
+inv-reads o t s h = reads-as s (reportBy (finishedAt o t)) (ap reportIn (h .leads) ∙ report-after (keptBy (t .last)) (restAt o t))
 
 news-edit : (c : Finished) (e : Edit) → Asks IsNew 5 (edit c e)
 news-edit c e = asks-edit c e (every-new IsNew (λ p x. tt) e)
@@ -159,7 +159,7 @@ numbers q = cc
 -- ---- one call
 
 pub record Good (o : Opening) (t : At) (s : Session) (c : Made) : Type 0 where
-  pub inv : Inv o (after o t (c .call)) (c .answer .session)
+  pub inv : Inv o (afterCall o t (c .call)) (c .answer .session)
   pub proper : EndsProperly o t s c
   pub defined : AsDefined o t s c
 
@@ -168,9 +168,9 @@ module _ (o : Opening) where
   limited rs n e = let b = count o rs in omega arith
 
   -- an edit that is let through is of the finished run that stands
-  edits-of : (t : At) (s : Session) → Inv o t s → (x : Call) (y : Editing) → stance o t x ≡ takes → x ≡ change (y .made) → after o t x .last ≡ some y → ReadsAs s (some (reportOf (y .of)))
+  edits-of : (t : At) (s : Session) → Inv o t s → (x : Call) (y : Editing) → stance o t x ≡ takes → x ≡ change (y .made) → afterCall o t x .last ≡ some y → ReadsAs s (some (reportOf (y .of)))
   edits-of t s h x y st ex el =
-      by (finishedAt o t) refl (subst (λ (z : Call). stance o t z ≡ takes) ex st) (subst (λ (z : Call). after o t z .last ≡ some y) ex el)
+      by (finishedAt o t) refl (subst (λ (z : Call). stance o t z ≡ takes) ex st) (subst (λ (z : Call). afterCall o t z .last ≡ some y) ex el)
     where
       by : (f : Option Finished) → finishedAt o t ≡ f → takingEdit f (y .made) ≡ takes → unlessDeclined (takingEdit f (y .made)) t (withEdit t f (y .made)) .last ≡ some y
           → ReadsAs s (some (reportOf (y .of)))
@@ -182,32 +182,32 @@ module _ (o : Opening) where
 
   module _ (t : At) (s : Session) (h : Inv o t s) where
     -- a refused edit restores the report
-    restores : (v : At) (r : Session) → Inv o v r → (x : Editing) (n i : ℕ) → v .last ≡ some x → rest o v ≡ refuse n i → ReadsAs r (some (reportOf (x .of)))
+    restores : (v : At) (r : Session) → Inv o v r → (x : Editing) (n i : ℕ) → v .last ≡ some x → restAt o v ≡ refuse n i → ReadsAs r (some (reportOf (x .of)))
     restores v r g x n i el er =
         subst (λ (p : Option Report). ReadsAs r p)
-        (ap (λ (l : Option Editing). reportBy (finishedBy (keptBy l) (rest o v))) el ∙ ap (λ (u : Run Finished). reportBy (finishedBy (some (x .of)) u)) er) (inv-reads o v r g)
+        (ap (λ (l : Option Editing). reportBy (finishedBy (keptBy l) (restAt o v))) el ∙ ap (λ (u : Run Finished). reportBy (finishedBy (some (x .of)) u)) er) (inv-reads o v r g)
 
     -- declined: the answer is the number, and the session as it was
     no : (c : Made) (n : ℕ) → stance o t (c .call) ≡ declines n → Declines (c .answer) s n → Good o t s c
     no c n e d =
         let same : c .answer .session ≡ s = d .same in
-        let stays : after o t (c .call) ≡ t = ap (λ (x : Taking). unlessDeclined x t (taken o t (c .call))) e in
+        let stays : afterCall o t (c .call) ≡ t = ap (λ (x : Taking). unlessDeclined x t (afterTaken o t (c .call))) e in
         let number : c .answer .step ≡ Step.Refused n 0 = d .says in
-        let next : Inv o (after o t (c .call)) (c .answer .session) = subst (λ (v : At). Inv o v (c .answer .session)) (sym stays) (subst (Inv o t) (sym same) h) in
+        let next : Inv o (afterCall o t (c .call)) (c .answer .session) = subst (λ (v : At). Inv o v (c .answer .session)) (sym stays) (subst (Inv o t) (sym same) h) in
         record {
           inv = next;
           proper = record {
             declined = λ m f. (number ∙ ap (λ (x : ℕ). Step.Refused x 0) (numbers (sym e ∙ f)), same);
-            counted = ap stated.count same ∙ sym (ap (countedSaid (after o t (c .call) .last) (stated.count s)) number ∙ refused-counts (after o t (c .call) .last) (stated.count s) n);
-            limited = limited (after o t (c .call) .run) (stated.count (c .answer .session)) (next .counts);
+            counted = ap stated.count same ∙ sym (ap (countedSaid (afterCall o t (c .call) .last) (stated.count s)) number ∙ refused-counts (afterCall o t (c .call) .last) (stated.count s) n);
+            limited = limited (afterCall o t (c .call) .run) (stated.count (c .answer .session)) (next .counts);
             edit-limited = λ x el mv bc list q. no-question (sym number ∙ q);
             edits = λ x st ex el. edits-of t s h (c .call) x st ex el;
-            restored = λ x m i el er. restores (after o t (c .call)) (c .answer .session) next x m i el er;
+            restored = λ x m i el er. restores (afterCall o t (c .call)) (c .answer .session) next x m i el er;
           };
           defined = record {
-            says = number ∙ ap (λ (x : Taking). due x (rest o (after o t (c .call)))) (sym e);
+            says = number ∙ ap (λ (x : Taking). due x (restAt o (afterCall o t (c .call)))) (sym e);
             counts = next .counts;
-            reads = inv-reads o (after o t (c .call)) (c .answer .session) next;
+            reads = inv-reads o (afterCall o t (c .call)) (c .answer .session) next;
           };
         }
       where
@@ -216,33 +216,33 @@ module _ (o : Opening) where
         refused-counts (some x) m n = refl
 
     -- taken: the run or the edit goes on
-    yes : (c : Made) (v : At) → stance o t (c .call) ≡ takes → after o t (c .call) ≡ v → Inv o v (c .answer .session) → c .answer .step ≡ head (rest o v)
+    yes : (c : Made) (v : At) → stance o t (c .call) ≡ takes → afterCall o t (c .call) ≡ v → Inv o v (c .answer .session) → c .answer .step ≡ head (restAt o v)
         → stated.count (c .answer .session) ≡ countedSaid (v .last) (stated.count s) (c .answer .step) → Good o t s c
     yes c v e goes g says counts =
-        let next : Inv o (after o t (c .call)) (c .answer .session) = subst (λ (u : At). Inv o u (c .answer .session)) (sym goes) g in
+        let next : Inv o (afterCall o t (c .call)) (c .answer .session) = subst (λ (u : At). Inv o u (c .answer .session)) (sym goes) g in
         record {
           inv = next;
           proper = record {
             declined = λ n f. absurd (apart (sym e ∙ f));
             counted = counts ∙ ap (λ (u : At). countedSaid (u .last) (stated.count s) (c .answer .step)) (sym goes);
-            limited = limited (after o t (c .call) .run) (stated.count (c .answer .session)) (next .counts);
-            edit-limited = λ x el mv bc list q. edit-asks o (after o t (c .call)) x el mv bc list (ap (λ (u : At). head (rest o u)) goes ∙ sym says ∙ q);
+            limited = limited (afterCall o t (c .call) .run) (stated.count (c .answer .session)) (next .counts);
+            edit-limited = λ x el mv bc list q. edit-asks o (afterCall o t (c .call)) x el mv bc list (ap (λ (u : At). head (restAt o u)) goes ∙ sym says ∙ q);
             edits = λ x st ex el. edits-of t s h (c .call) x st ex el;
-            restored = λ x m i el er. restores (after o t (c .call)) (c .answer .session) next x m i el er;
+            restored = λ x m i el er. restores (afterCall o t (c .call)) (c .answer .session) next x m i el er;
           };
           defined = record {
-            says = says ∙ ap (λ (u : At). head (rest o u)) (sym goes) ∙ ap (λ (x : Taking). due x (rest o (after o t (c .call)))) (sym e);
+            says = says ∙ ap (λ (u : At). head (restAt o u)) (sym goes) ∙ ap (λ (x : Taking). due x (restAt o (afterCall o t (c .call)))) (sym e);
             counts = next .counts;
-            reads = inv-reads o (after o t (c .call)) (c .answer .session) next;
+            reads = inv-reads o (afterCall o t (c .call)) (c .answer .session) next;
           };
         }
 
   -- one reply more
   replies : (rs : List Reply) (last : Option Editing) (s : Session) → Inv o (record { run = rs; last = last }) s → (r : Reply) (p : Point) (w : Which) (k : Reply → Run Finished)
-      → rest o (record { run = rs; last = last }) ≡ ask p w k → (a : Answer) → Stands a (seen s .sizes) (keptBy last) (stated.count s) (k r)
+      → restAt o (record { run = rs; last = last }) ≡ ask p w k → (a : Answer) → Stands a (seen s .sizes) (keptBy last) (stated.count s) (k r)
       → Inv o (withReply rs last r) (a .session) × (stated.count (a .session) ≡ countedSaid (withReply rs last r .last) (stated.count s) (a .step))
   replies rs none s h r p w k at a d =
-      let goes : rest o (withReply rs none r) ≡ k r = rest-more o rs none r p w k at in
+      let goes : restAt o (withReply rs none r) ≡ k r = rest-more o rs none r p w k at in
       let small : stated.count s ≤ 4546 = limited rs (stated.count s) (h .counts) in (
         record {
           leads = d .leads ∙ ap (meaning.after none) (sym goes);
@@ -254,7 +254,7 @@ module _ (o : Opening) where
         d .counts ∙ counted-plus (stated.count s) (k r) small ∙ said-plus (stated.count s) (k r) ∙ ap (countedSaid none (stated.count s)) (sym (d .says)),
       )
   replies rs (some x) s h r p w k at a d =
-      let goes : rest o (withReply rs (some x) r) ≡ k r = rest-more o rs (some x) r p w k at in (
+      let goes : restAt o (withReply rs (some x) r) ≡ k r = rest-more o rs (some x) r p w k at in (
         record {
           leads = d .leads ∙ ap (meaning.after (some (x .of))) (sym goes);
           sized = tt;
@@ -265,17 +265,17 @@ module _ (o : Opening) where
       )
 
   module _ (t : At) (s : Session) (h : Inv o t s) where
-    at-state : (u : Run Finished) → rest o t ≡ u → state s ≡ meaning.after (keptBy (t .last)) u
+    at-state : (u : Run Finished) → restAt o t ≡ u → state s ≡ meaning.after (keptBy (t .last)) u
     at-state u e = h .leads ∙ ap (meaning.after (keptBy (t .last))) e
 
-    by-wants : (p : Point) (w : Which) (k : Reply → Run Finished) → rest o t ≡ ask p w k → wants (seen s .sizes) w ≡ wants (sizesFor o) w
+    by-wants : (p : Point) (w : Which) (k : Reply → Run Finished) → restAt o t ≡ ask p w k → wants (seen s .sizes) w ≡ wants (sizesFor o) w
     by-wants p w k e = same-wants (t .last) p w k (sizesFor o) (seen s .sizes) (h .sized) (subst (News (t .last)) e (h .news))
 
     -- a reply that is taken
-    took : (c : Made) (r : Reply) (p : Point) (w : Which) (k : Reply → Run Finished) → rest o t ≡ ask p w k → stance o t (c .call) ≡ takes → taken o t (c .call) ≡ withReply (t .run) (t .last) r
+    took : (c : Made) (r : Reply) (p : Point) (w : Which) (k : Reply → Run Finished) → restAt o t ≡ ask p w k → stance o t (c .call) ≡ takes → afterTaken o t (c .call) ≡ withReply (t .run) (t .last) r
         → Stands (c .answer) (seen s .sizes) (keptBy (t .last)) (stated.count s) (k r) → Good o t s c
     took c r p w k at e same d =
-        let goes : after o t (c .call) ≡ withReply (t .run) (t .last) r = ap (λ (x : Taking). unlessDeclined x t (taken o t (c .call))) e ∙ same in
+        let goes : afterCall o t (c .call) ≡ withReply (t .run) (t .last) r = ap (λ (x : Taking). unlessDeclined x t (afterTaken o t (c .call))) e ∙ same in
         let next = replies (t .run) (t .last) s h r p w k at (c .answer) d in
         yes t s h c (withReply (t .run) (t .last) r) e goes (next .0) (d .says ∙ ap head (sym (rest-more o (t .run) (t .last) r p w k at))) (next .1)
 
@@ -291,7 +291,7 @@ module _ (o : Opening) where
         by true f = absurd (apart f)
         by false f = let z : _≡_ {A = ℕ} 9 8 = numbers f in absurd (omega arith)
 
-    replied : (ds : List Float) (ms : List Bool) (a : Answer) → Replied s ds ms a → (u : Run Finished) → rest o t ≡ u → Good o t s (record { call = reply ds ms; answer = a })
+    replied : (ds : List Float) (ms : List Bool) (a : Answer) → Replied s ds ms a → (u : Run Finished) → restAt o t ≡ u → Good o t s (record { call = reply ds ms; answer = a })
     replied ds ms a m (done c) e =
         let f : stance o t (reply ds ms) ≡ declines 8 = ap (λ (u : Run Finished). takingReply (sizesFor o) u ds ms) e in
         no t s h _ 8 f (replied-closed ds ms a (keptBy (t .last)) (done c) (subst (λ (x : State). entriesTaken x s ds ms a) (at-state (done c) e) (m .is)) refl)
@@ -314,7 +314,7 @@ module _ (o : Opening) where
     pointed-closed a (some c) (refuse n i) d e = d
     pointed-closed a kept (ask p w k) d e = absurd (apart e)
 
-    pointed : (a : Answer) → PointRefused s a → (u : Run Finished) → rest o t ≡ u → Good o t s (record { call = refusePoint; answer = a })
+    pointed : (a : Answer) → PointRefused s a → (u : Run Finished) → restAt o t ≡ u → Good o t s (record { call = refusePoint; answer = a })
     pointed a m (done c) e =
         no t s h _ 8 (ap takingRefusal e) (pointed-closed a (keptBy (t .last)) (done c) (subst (λ (x : State). refusalTaken x s a) (at-state (done c) e) (m .is)) refl)
     pointed a m (refuse n i) e =
@@ -337,10 +337,10 @@ module _ (o : Opening) where
     changed : (e : Edit) (a : Answer) → Edited s e a → (f : Option Finished) → finishedAt o t ≡ f → Good o t s (record { call = change e; answer = a })
     changed e a m none f =
         no t s h _ 14 (ap (λ (x : Option Finished). takingEdit x e) f)
-        (not-finished e a (keptBy (t .last)) (rest o t) f (subst (λ (x : State). editTaken x s e a) (h .leads) (m .is)))
+        (not-finished e a (keptBy (t .last)) (restAt o t) f (subst (λ (x : State). editTaken x s e a) (h .leads) (m .is)))
     changed e a m (some c) f =
         by (placed e (length (c .requested))) (ap (λ (x : Option Finished). takingEdit x e) f)
-        (finished e a (keptBy (t .last)) (rest o t) c f (subst (λ (x : State). editTaken x s e a) (h .leads) (m .is)))
+        (finished e a (keptBy (t .last)) (restAt o t) c f (subst (λ (x : State). editTaken x s e a) (h .leads) (m .is)))
       where
         v : At
         v = record { run = t .run; last = some (record { of = c; made = e; replies = [] }) }
@@ -348,13 +348,13 @@ module _ (o : Opening) where
         by : (b : Bool) → stance o t (change e) ≡ cond b takes (declines 15) → either b (Stands a (seen s .sizes) (some c) (stated.count s) (edit c e)) (Declines a s 15)
             → Good o t s (record { call = change e; answer = a })
         by true g d =
-            yes t s h _ v g (ap (λ (x : Taking). unlessDeclined x t (taken o t (change e))) g ∙ ap (λ (x : Option Finished). withEdit t x e) f)
+            yes t s h _ v g (ap (λ (x : Taking). unlessDeclined x t (afterTaken o t (change e))) g ∙ ap (λ (x : Option Finished). withEdit t x e) f)
             (record { leads = d .leads; sized = tt; news = news-edit c e; counts = d .counts ∙ h .counts }) (d .says) (d .counts)
         by false g d = no t s h _ 15 g d
 
     pub step : (x : Call) (a : Answer) → Meets x s a → Good o t s (record { call = x; answer = a })
-    step (reply ds ms) a m = replied ds ms a m (rest o t) refl
-    step refusePoint a m = pointed a m (rest o t) refl
+    step (reply ds ms) a m = replied ds ms a m (restAt o t) refl
+    step refusePoint a m = pointed a m (restAt o t) refl
     step (change e) a m = changed e a m (finishedAt o t) refl
 
 -- ---- the opening
@@ -395,11 +395,11 @@ module _ (o : Opening) where
 
 walk-1 : (o : Opening) (t : At) (a : Answer) (cs : List Made) → Inv o t (a .session) → Chained a cs → Throughout (EndsProperly o) o t (a .session) cs
 walk-1 o t a [] h m = tt
-walk-1 o t a (c ∷ cs) h m = let g = step o t (a .session) h (c .call) (c .answer) (m .0) in (g .proper, walk-1 o (after o t (c .call)) (c .answer) cs (g .inv) (m .1))
+walk-1 o t a (c ∷ cs) h m = let g = step o t (a .session) h (c .call) (c .answer) (m .0) in (g .proper, walk-1 o (afterCall o t (c .call)) (c .answer) cs (g .inv) (m .1))
 
 walk-2 : (o : Opening) (t : At) (a : Answer) (cs : List Made) → Inv o t (a .session) → Chained a cs → Throughout (AsDefined o) o t (a .session) cs
 walk-2 o t a [] h m = tt
-walk-2 o t a (c ∷ cs) h m = let g = step o t (a .session) h (c .call) (c .answer) (m .0) in (g .defined, walk-2 o (after o t (c .call)) (c .answer) cs (g .inv) (m .1))
+walk-2 o t a (c ∷ cs) h m = let g = step o t (a .session) h (c .call) (c .answer) (m .0) in (g .defined, walk-2 o (afterCall o t (c .call)) (c .answer) cs (g .inv) (m .1))
 
 pub demand-1 : Demand1
 demand-1 o a m cs ch = (opens-properly o a m, walk-1 o first a cs (begins o a m) ch)
@@ -445,16 +445,16 @@ module _ (σ : Solver) (o : Opening) where
       let same : c ≡ x .of = ap (λ (z : Option Editing). ofOr c z) l in
       subst (λ (d : Finished). ReadsAs s (some (reportOf d))) same (subst (λ (z : Option Finished). ReadsAs s (reportBy z)) e (inv-reads o t s h))
 
-  taken-before : (t : At) (old s : Session) → Inv o t s → Before t old → (x : Call) → stance o t x ≡ takes → Before (taken o t x) (editedFrom old s x)
+  taken-before : (t : At) (old s : Session) → Inv o t s → Before t old → (x : Call) → stance o t x ≡ takes → Before (afterTaken o t x) (editedFrom old s x)
   taken-before t old s h b (reply ds ms) e = reply-before (t .run) (t .last) _ old b
   taken-before t old s h b refusePoint e = reply-before (t .run) (t .last) _ old b
   taken-before t old s h b (change f) e = edit-before t s h f (finishedAt o t) refl e
 
-  next-before : (t : At) (u : Trail) (old s : Session) (x : Call) → Inv o t s → Agrees σ o t u → Before t old → Before (after o t x) (beforeEdit σ o u old s x)
+  next-before : (t : At) (u : Trail) (old s : Session) (x : Call) → Inv o t s → Agrees σ o t u → Before t old → Before (afterCall o t x) (beforeEdit σ o u old s x)
   next-before t u old s x h g b =
-      subst (λ (z : Taking). Before (after o t x) (unlessDeclined z old (editedFrom old s x))) (sym (agrees-ruled σ o t u g x)) (by (stance o t x) refl)
+      subst (λ (z : Taking). Before (afterCall o t x) (unlessDeclined z old (editedFrom old s x))) (sym (agrees-ruled σ o t u g x)) (by (stance o t x) refl)
     where
-      by : (y : Taking) → stance o t x ≡ y → Before (unlessDeclined y t (taken o t x)) (unlessDeclined y old (editedFrom old s x))
+      by : (y : Taking) → stance o t x ≡ y → Before (unlessDeclined y t (afterTaken o t x)) (unlessDeclined y old (editedFrom old s x))
       by (declines n) e = b
       by takes e = taken-before t old s h b x e
 
@@ -471,20 +471,20 @@ module _ (σ : Solver) (o : Opening) where
       let now = next-before t u old (a .session) (c .call) h g b in (
         record {
           declined = λ n e. k .proper .declined n (sym (agrees-ruled σ o t u g (c .call)) ∙ e);
-          holds = holds-said u c (dueTo o t (c .call)) (reportBy (finishedAt o (after o t (c .call)))) says (k .defined .reads) (agrees-holds σ o t u g (c .call) (f .0));
+          holds = holds-said u c (dueTo o t (c .call)) (reportBy (finishedAt o (afterCall o t (c .call)))) says (k .defined .reads) (agrees-holds σ o t u g (c .call) (f .0));
           changes = λ e i r z.
               let x = agrees-changes σ o t u g (c .call) (f .0) e i r (ap (heard o) (sym says) ∙ z) in
               record {
                 old = reportOf (x .0);
                 new = x .1;
-                reads-old = kept-before (beforeEdit σ o u old (a .session) (c .call)) (x .0) (after o t (c .call) .last) now (x .2);
+                reads-old = kept-before (beforeEdit σ o u old (a .session) (c .call)) (x .0) (afterCall o t (c .call) .last) now (x .2);
                 reads-new = subst (ReadsAs (c .answer .session)) (x .3) (k .defined .reads);
                 made = λ y. x .4 (sym says ∙ y);
                 refused = λ n j y. x .5 n j (sym says ∙ y);
               };
         },
-        walk-3 (after o t (c .call)) (nextTrail σ o u c) (beforeEdit σ o u old (a .session) (c .call)) (c .answer) cs (k .inv)
-            (subst (λ (x : Step). Agrees σ o (after o t (c .call)) (followed σ o u (c .call) x)) (sym says) (agrees-next σ o t u g (c .call) (f .0))) now (m .1) (f .1),
+        walk-3 (afterCall o t (c .call)) (nextTrail σ o u c) (beforeEdit σ o u old (a .session) (c .call)) (c .answer) cs (k .inv)
+            (subst (λ (x : Step). Agrees σ o (afterCall o t (c .call)) (followed σ o u (c .call) x)) (sym says) (agrees-next σ o t u g (c .call) (f .0))) now (m .1) (f .1),
       )
 
 pub demand-3 : Demand3
@@ -510,7 +510,7 @@ module _ (σ : Solver) (o : Opening) where
   all-due t u a (c ∷ cs) h m d =
       let k = step o t (a .session) h (c .call) (c .answer) (m .0) in
       let says = k .defined .says in
-      let r = all-due (after o t (c .call)) (followed σ o u (c .call) (dueTo o t (c .call))) (c .answer) cs (k .inv) (m .1) (d .1) in (
+      let r = all-due (afterCall o t (c .call)) (followed σ o u (c .call) (dueTo o t (c .call))) (c .answer) cs (k .inv) (m .1) (d .1) in (
         ap (λ (x : Step). example.brief x ∷ map (λ e. example.brief (e .answer .step)) cs) says ∙ ap (λ (l : List example.Brief). example.brief (dueTo o t (c .call)) ∷ l) (r .0),
         (d .0, subst (λ (x : Step). AllFrom σ o (followed σ o u (c .call) x) cs) (sym says) (r .1)),
       )

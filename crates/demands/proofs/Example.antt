@@ -5,8 +5,8 @@ use mathlib.Core.List.{map}
 use lib.Ieee.{round, add, sub, mul, div, lt, le, isNan, ofBits}
 use Rattle.numeric.specs.Numeric.{finite, absOf, maxOf}
 use Rattle.definition.specs.Fit.{gradientNormOf, flatOf, evaluated, iterate, fitMap}
-use Rattle.definition.specs.Likelihood.{chiSquareOf, withPriorOf, withPriorsOf, valued, objective, mvStepOf, bcStepOf, mvPlusAt, mvMinusAt, bcPlusAt, bcMinusAt, bcMinus, bcPlus, mvMinus, mvPlus, truingJacobianRows, complete, accumulateOf, sumsOf, withPriorGradientOf, finishedOf, evaluate}
-use Rattle.definition.specs.Whole.{withinOf, positiveOf, soundObservationOf, soundPriorOf, soundRequestedOf, checkedPoint, checkedCount, checkedMeasured, checkedRequested, bandRows, baseline, concluded, banded, fitted, run, whole, asked, edit}
+use Rattle.definition.specs.Likelihood.{chiSquareOf, withPriorOf, withPriorsOf, valued, objective, mvStepOf, bcStepOf, mvPlusAt, mvMinusAt, bcPlusAt, bcMinusAt, bcMinus, bcPlus, mvMinus, mvPlus, truingJacobianRows, complete, accumulateOf, sumsOf, withPriorGradientOf, fromSums, evaluate}
+use Rattle.definition.specs.Whole.{withinOf, positiveOf, soundObservationOf, soundPriorOf, soundRequestedOf, checkedPoint, checkedCount, checkedMeasured, checkedRequested, bandRows, baseline, concluded, banded, fitted, run, whole, editQuestions, edit}
 use Rattle.fresh_outcome.specs.Solver.{fresh}
 use Rattle.demands.specs.Example.{solver, opening, callOf, all, Example, ExampleMet}
 use Rattle.demands.proofs.Demands.{as-due}
@@ -18,11 +18,11 @@ unfolding round add sub mul div lt le isNan ofBits finite absOf maxOf
 doubles = 0
 
 fits : ℕ
-unfolding chiSquareOf withPriorOf withPriorsOf valued objective mvStepOf bcStepOf mvPlusAt mvMinusAt bcPlusAt bcMinusAt bcMinus bcPlus mvMinus mvPlus truingJacobianRows complete accumulateOf sumsOf withPriorGradientOf finishedOf evaluate gradientNormOf flatOf evaluated iterate fitMap
+unfolding chiSquareOf withPriorOf withPriorsOf valued objective mvStepOf bcStepOf mvPlusAt mvMinusAt bcPlusAt bcMinusAt bcMinus bcPlus mvMinus mvPlus truingJacobianRows complete accumulateOf sumsOf withPriorGradientOf fromSums evaluate gradientNormOf flatOf evaluated iterate fitMap
 fits = 0
 
 runs : ℕ
-unfolding withinOf positiveOf soundObservationOf soundPriorOf soundRequestedOf checkedPoint checkedCount checkedMeasured checkedRequested bandRows baseline concluded banded fitted run whole asked edit fresh
+unfolding withinOf positiveOf soundObservationOf soundPriorOf soundRequestedOf checkedPoint checkedCount checkedMeasured checkedRequested bandRows baseline concluded banded fitted run whole editQuestions edit fresh
 runs = 0
 
 -- for a long list of pairs

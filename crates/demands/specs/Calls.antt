@@ -50,8 +50,8 @@ restBy o rs none = resume (whole o) rs
 restBy o rs (some x) = resume (edit (x .of) (x .made)) (x .replies)
 
 -- what is left: of the last edit, or of the run
-abbrev pub rest : Opening → At → Run Finished
-rest o t = restBy o (t .run) (t .last)
+abbrev pub restAt : Opening → At → Run Finished
+restAt o t = restBy o (t .run) (t .last)
 
 abbrev pub keptBy : Option Editing → Option Finished
 keptBy none = none
@@ -64,7 +64,7 @@ finishedBy kept (refuse n i) = kept
 finishedBy kept (ask p w k) = none
 
 abbrev pub finishedAt : Opening → At → Option Finished
-finishedAt o t = finishedBy (keptBy (t .last)) (rest o t)
+finishedAt o t = finishedBy (keptBy (t .last)) (restAt o t)
 
 abbrev pub reportBy : Option Finished → Option Report
 reportBy none = none
@@ -94,8 +94,8 @@ takingEdit none e = declines 14
 takingEdit (some c) e = cond (placed e (length (c .requested))) takes (declines 15)
 
 abbrev pub stance : Opening → At → Call → Taking
-stance o t (reply ds ms) = takingReply (sizesFor o) (rest o t) ds ms
-stance o t refusePoint = takingRefusal (rest o t)
+stance o t (reply ds ms) = takingReply (sizesFor o) (restAt o t) ds ms
+stance o t refusePoint = takingRefusal (restAt o t)
 stance o t (change e) = takingEdit (finishedAt o t) e
 
 -- one reply more, to the last edit or to the run
@@ -107,18 +107,18 @@ abbrev pub withEdit : At → Option Finished → Edit → At
 withEdit t none e = t
 withEdit t (some c) e = record { run = t .run; last = some (record { of = c; made = e; replies = [] }) }
 
-abbrev pub taken : Opening → At → Call → At
-taken o t (reply ds ms) = withReply (t .run) (t .last) (entries (entriesOf ds ms))
-taken o t refusePoint = withReply (t .run) (t .last) refused
-taken o t (change e) = withEdit t (finishedAt o t) e
+abbrev pub afterTaken : Opening → At → Call → At
+afterTaken o t (reply ds ms) = withReply (t .run) (t .last) (entries (entriesOf ds ms))
+afterTaken o t refusePoint = withReply (t .run) (t .last) refused
+afterTaken o t (change e) = withEdit t (finishedAt o t) e
 
 -- a declined call changes nothing
 abbrev pub unlessDeclined : {A : Type 0} → Taking → A → A → A
 unlessDeclined (declines n) old new = old
 unlessDeclined takes old new = new
 
-abbrev pub after : Opening → At → Call → At
-after o t x = unlessDeclined (stance o t x) t (taken o t x)
+abbrev pub afterCall : Opening → At → Call → At
+afterCall o t x = unlessDeclined (stance o t x) t (afterTaken o t x)
 
 -- what is to be said: the number of a declined call, or what the run or the edit comes to next
 abbrev pub due : Taking → Run Finished → Step
@@ -126,4 +126,4 @@ due (declines n) t = Step.Refused n 0
 due takes t = head t
 
 abbrev pub dueTo : Opening → At → Call → Step
-dueTo o t x = due (stance o t x) (rest o (after o t x))
+dueTo o t x = due (stance o t x) (restAt o (afterCall o t x))

@@ -29,8 +29,8 @@ use Rattle.definition.specs.Session.{Opened, Replied, PointRefused, Edited}
 use Rattle.report.specs.Reading.{ReportRead, ResultRead, BaselineResultRead, BandRead}
 use Rattle.editing.specs.declared.Session.{Session}
 use Rattle.editing.specs.declared.Answer.{Answer}
-use Rattle.demands.specs.Calls.{Call, reply, refusePoint, change, Editing, At, first, rest, finishedAt, reportBy, declines, takes, stance, unlessDeclined, after, dueTo}
-use Rattle.demands.specs.Book.{heard, opened, ruled, Ends, Edits, standing, Holds, Trail, begun, followed, FromSolver}
+use Rattle.demands.specs.Calls.{Call, reply, refusePoint, change, Editing, At, first, restAt, finishedAt, reportBy, declines, takes, stance, unlessDeclined, afterCall, dueTo}
+use Rattle.demands.specs.Book.{heard, opened, ruled, Ends, Edits, standingReport, Holds, Trail, begun, followed, FromSolver}
 
 -- ---- the calls of a host
 
@@ -53,7 +53,7 @@ Chained a (c ∷ cs) = Meets (c .call) (a .session) (c .answer) × Chained (c .a
 -- a property of each call of a list, from where the run and its edits stand and from this session on
 abbrev pub Throughout : (At → Session → Made → Type 0) → Opening → At → Session → List Made → Type 0
 Throughout P o t s [] = Unit {0}
-Throughout P o t s (c ∷ cs) = P t s c × Throughout P o (after o t (c .call)) (c .answer .session) cs
+Throughout P o t s (c ∷ cs) = P t s c × Throughout P o (afterCall o t (c .call)) (c .answer .session) cs
 
 abbrev pub Whatever : (Opening → Answer → Type 0) → (Opening → At → Session → Made → Type 0) → Type 0
 Whatever First P = (o : Opening) (a : Answer) → Opened seen o (a .step) (a .session) → (cs : List Made) → Chained a cs → First o a × Throughout (P o) o first (a .session) cs
@@ -96,14 +96,14 @@ pub record EndsProperly (o : Opening) (t : At) (s : Session) (c : Made) : Type 0
   -- a call that was not due gets its number and changes nothing
   pub declined : (n : ℕ) → stance o t (c .call) ≡ declines n → (c .answer .step ≡ Step.Refused n 0) × (c .answer .session ≡ s)
   -- the count rises by one exactly where the run's answer is a question, and stays within its limit, so that no run puts more questions
-  pub counted : count (c .answer .session) ≡ countedSaid (after o t (c .call) .last) (count s) (c .answer .step)
+  pub counted : count (c .answer .session) ≡ countedSaid (afterCall o t (c .call) .last) (count s) (c .answer .step)
   pub limited : count (c .answer .session) ≤ 4546
   -- a question of an edit comes after fewer replies than it puts questions at the most: so it puts no more, and ends with the fifth reply if not before
-  pub edit-limited : (x : Editing) → after o t (c .call) .last ≡ some x → (mv bc : Float) (list : Distances) → c .answer .step ≡ Step.Question mv bc list
+  pub edit-limited : (x : Editing) → afterCall o t (c .call) .last ≡ some x → (mv bc : Float) (list : Distances) → c .answer .step ≡ Step.Question mv bc list
       → length (x .replies) < mostOf (x .made)
   -- an edit that is let through is of the report that stands, and one that ends in a refusal restores it
-  pub edits : (x : Editing) → stance o t (c .call) ≡ takes → c .call ≡ change (x .made) → after o t (c .call) .last ≡ some x → ReadsAs s (some (reportOf (x .of)))
-  pub restored : (x : Editing) (n i : ℕ) → after o t (c .call) .last ≡ some x → rest o (after o t (c .call)) ≡ refuse n i → ReadsAs (c .answer .session) (some (reportOf (x .of)))
+  pub edits : (x : Editing) → stance o t (c .call) ≡ takes → c .call ≡ change (x .made) → afterCall o t (c .call) .last ≡ some x → ReadsAs s (some (reportOf (x .of)))
+  pub restored : (x : Editing) (n i : ℕ) → afterCall o t (c .call) .last ≡ some x → restAt o (afterCall o t (c .call)) ≡ refuse n i → ReadsAs (c .answer .session) (some (reportOf (x .of)))
 
 -- Theorem `demand-1`.
 abbrev pub Demand1 : Type 0
@@ -119,8 +119,8 @@ pub record OpensAsDefined (o : Opening) (a : Answer) : Type 0 where
 -- what is said, the number of questions that the run has put, and the report
 pub record AsDefined (o : Opening) (t : At) (s : Session) (c : Made) : Type 0 where
   pub says : c .answer .step ≡ dueTo o t (c .call)
-  pub counts : count (c .answer .session) ≡ put (whole o) (after o t (c .call) .run)
-  pub reads : ReadsAs (c .answer .session) (reportBy (finishedAt o (after o t (c .call))))
+  pub counts : count (c .answer .session) ≡ put (whole o) (afterCall o t (c .call) .run)
+  pub reads : ReadsAs (c .answer .session) (reportBy (finishedAt o (afterCall o t (c .call))))
 
 -- Theorem `demand-2`.
 abbrev pub Demand2 : Type 0
@@ -129,11 +129,11 @@ Demand2 = Whatever OpensAsDefined AsDefined
 -- ---- demand 3: the run and each edit end as a fresh run does, whatever pointwise solver the taken replies come from
 
 -- an edit has ended, and this was said: what is read on the session that it was made on, and what is read then
-pub record Changes (e : Edit) (before : Session) (said : Step) (after : Session) : Type 0 where
+pub record Changes (e : Edit) (before : Session) (said : Step) (afterCall : Session) : Type 0 where
   pub old : Report
   pub new : Report
   pub reads-old : ReadsAs before (some old)
-  pub reads-new : ReadsAs after (some new)
+  pub reads-new : ReadsAs afterCall (some new)
   -- only the band concerned and the outside-domain warning change
   pub made : said ≡ Step.Report → BandAlone e old new
   -- a refused edit changes nothing
@@ -159,7 +159,7 @@ module _ (σ : Solver) (o : Opening) where
   pub record OpensFresh (a : Answer) : Type 0 where
     pub stops : (heard o (a .step) ≡ none) ↔ (0 ≡ questions (hostOf σ o) (whole o))
     pub ends : heard o (a .step) ≡ none → Ends (fresh σ o (o .requested)) none (a .step) (ReadsAs (a .session))
-    pub stands : ReadsAs (a .session) (standing σ o (opened o (heard o (a .step))))
+    pub stands : ReadsAs (a .session) (standingReport σ o (opened o (heard o (a .step))))
 
   pub record EndsFresh (u : Trail) (before s : Session) (c : Made) : Type 0 where
     -- where the book's rules place 8, 9, 14 and 15, they come and change nothing

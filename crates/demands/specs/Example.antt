@@ -19,7 +19,7 @@ use Rattle.definition.specs.declared.Step.{Step}
 use Rattle.definition.specs.declared.Step.the-variants as Step
 use Rattle.definition.specs.declared.Distances.{Distances}
 use Rattle.definition.specs.declared.Distances.the-variants as Distances
-use Rattle.demands.specs.Calls.{Call, reply, refusePoint, change, At, first, after, dueTo}
+use Rattle.demands.specs.Calls.{Call, reply, refusePoint, change, At, first, afterCall, dueTo}
 use Rattle.editing.specs.Meaning.{seen}
 use Rattle.definition.specs.Session.{Opened}
 use Rattle.editing.specs.declared.Answer.{Answer}
@@ -32,11 +32,11 @@ module _ (σ : Solver) (o : Opening) where
   -- each reply that is taken comes from the solver
   abbrev pub AllDue : At → Trail → List Call → Type 0
   AllDue t u [] = Unit {0}
-  AllDue t u (x ∷ xs) = FromSolver σ o u x × AllDue (after o t x) (followed σ o u x (dueTo o t x)) xs
+  AllDue t u (x ∷ xs) = FromSolver σ o u x × AllDue (afterCall o t x) (followed σ o u x (dueTo o t x)) xs
 
   abbrev pub bookAfter : At → Trail → List Call → Book
   bookAfter t u [] = u .book
-  bookAfter t u (x ∷ xs) = bookAfter (after o t x) (followed σ o u x (dueTo o t x)) xs
+  bookAfter t u (x ∷ xs) = bookAfter (afterCall o t x) (followed σ o u x (dueTo o t x)) xs
 
 -- what is said, without the point of a question
 pub data Brief : Type 0 where
@@ -51,7 +51,7 @@ brief (Step.Refused n i) = refuses n i
 
 abbrev pub told : Opening → At → List Call → List Brief
 told o t [] = []
-told o t (x ∷ xs) = brief (dueTo o t x) ∷ told o (after o t x) xs
+told o t (x ∷ xs) = brief (dueTo o t x) ∷ told o (afterCall o t x) xs
 
 -- ---- the solver and the opening
 

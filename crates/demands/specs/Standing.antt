@@ -12,7 +12,7 @@ use Rattle.definition.specs.Session.{sizesFor}
 use Rattle.editing.specs.Meaning.{state, seen}
 use Rattle.definition.specs.Session.{Sized}
 use Rattle.editing.specs.declared.Session.{Session}
-use Rattle.demands.specs.Calls.{Editing, At, rest, keptBy}
+use Rattle.demands.specs.Calls.{Editing, At, restAt, keptBy}
 use Rattle.demands.specs.Demands.{count}
 
 abbrev pub IsNew : Point → Which → Type 0
@@ -26,7 +26,7 @@ News none t = Unit {0}
 News (some x) t = Asks IsNew 5 t
 
 pub record Inv (o : Opening) (t : At) (s : Session) : Type 0 where
-  pub leads : state s ≡ meaning.after (keptBy (t .last)) (rest o t)
+  pub leads : state s ≡ meaning.after (keptBy (t .last)) (restAt o t)
   pub sized : Sized (keptBy (t .last)) (sizesFor o) (seen s .sizes)
-  pub news : News (t .last) (rest o t)
+  pub news : News (t .last) (restAt o t)
   pub counts : count s ≡ put (whole o) (t .run)

@@ -261,23 +261,23 @@ module _ (s : Session) (f : Fitted) (says : fittedSays f ≡ fittedIn (state s))
     unfolding whole.edit
     no-room place d a q h r =
         ends-refused (putIn place d) a 6 0 q
-        (ap (λ (b : Bool). bind (require b 6 0) (λ u. bind (require (soundRequestedOf d) 7 place) (λ v. whole.asked (there .of) (putIn place d) place d)))
+        (ap (λ (b : Bool). bind (require b 6 0) (λ u. bind (require (soundRequestedOf d) 7 place) (λ v. whole.editQuestions (there .of) (putIn place d) place d)))
         (ap (λ (m : ℕ). ltb m 64) (there .size) ∙ le-ltb n 64 h))
         r
 
     -- 7
     put-sound : (place : ℕ) (d : Requested) → n < 64 → (b : Bool) → soundRequestedOf d ≡ b
-        → whole.edit (there .of) (putIn place d) ≡ bind (require b 7 place) (λ v. whole.asked (there .of) (putIn place d) place d)
+        → whole.edit (there .of) (putIn place d) ≡ bind (require b 7 place) (λ v. whole.editQuestions (there .of) (putIn place d) place d)
     unfolding whole.edit
     put-sound place d h b e =
-        ap (λ (t : Bool). bind (require t 6 0) (λ u. bind (require (soundRequestedOf d) 7 place) (λ v. whole.asked (there .of) (putIn place d) place d)))
+        ap (λ (t : Bool). bind (require t 6 0) (λ u. bind (require (soundRequestedOf d) 7 place) (λ v. whole.editQuestions (there .of) (putIn place d) place d)))
         (ap (λ (m : ℕ). ltb m 64) (there .size) ∙ lt-ltb n 64 h)
-        ∙ ap (λ (t : Bool). bind (require t 7 place) (λ v. whole.asked (there .of) (putIn place d) place d)) e
+        ∙ ap (λ (t : Bool). bind (require t 7 place) (λ v. whole.editQuestions (there .of) (putIn place d) place d)) e
 
     exchange-sound : (place : ℕ) (d : Requested) (b : Bool) → soundRequestedOf d ≡ b
-        → whole.edit (there .of) (exchange place d) ≡ bind (require b 7 place) (λ v. whole.asked (there .of) (exchange place d) place d)
+        → whole.edit (there .of) (exchange place d) ≡ bind (require b 7 place) (λ v. whole.editQuestions (there .of) (exchange place d) place d)
     unfolding whole.edit
-    exchange-sound place d b e = ap (λ (t : Bool). bind (require t 7 place) (λ v. whole.asked (there .of) (exchange place d) place d)) e
+    exchange-sound place d b e = ap (λ (t : Bool). bind (require t 7 place) (λ v. whole.editQuestions (there .of) (exchange place d) place d)) e
 
     pub faulty-put : (place : ℕ) (d : Requested) (a : Answer) → placed (putIn place d) n ≡ true → n < 64 → soundRequestedOf d ≡ false → a ≡ closedWith (s .run) (Refused 7 place)
         → Edited s (putIn place d) a
@@ -305,23 +305,23 @@ module _ (s : Session) (f : Fitted) (says : fittedSays f ≡ fittedIn (state s))
     pub begins-put : (place : ℕ) (range : Float) (sigma : Number) (x : Float) (a : Answer) → x ≡ storedSigma sigma
         → placed (putIn place (requestedOf range sigma)) n ≡ true → n < 64 → soundRequestedOf (requestedOf range sigma) ≡ true
         → a ≡ askedAt (s .run) (newly (PutIn place range x)) p → Edited s (putIn place (requestedOf range sigma)) a
-    unfolding whole.asked
+    unfolding whole.editQuestions
     begins-put place range sigma x a ex q h e d =
         let c = there .of in
         let w = requestedOf range sigma in
         begins (putIn place w) (PutIn place range x) a q (both (placed (putIn place w) n) (ltb n 64 && true) q (both (ltb n 64) true (lt-ltb n 64 h) refl))
-        (ap (λ (y : Requested). whole.asked c (putIn place y) place y) (ap (requestedAt range) ex ∙ as-given range sigma e) ∙ sym (put-sound place w h true e))
+        (ap (λ (y : Requested). whole.editQuestions c (putIn place y) place y) (ap (requestedAt range) ex ∙ as-given range sigma e) ∙ sym (put-sound place w h true e))
         d
 
     pub begins-exchange : (place : ℕ) (range : Float) (sigma : Number) (x : Float) (a : Answer) → x ≡ storedSigma sigma
         → placed (exchange place (requestedOf range sigma)) n ≡ true → soundRequestedOf (requestedOf range sigma) ≡ true
         → a ≡ askedAt (s .run) (newly (Exchange place range x)) p → Edited s (exchange place (requestedOf range sigma)) a
-    unfolding whole.asked
+    unfolding whole.editQuestions
     begins-exchange place range sigma x a ex q e d =
         let c = there .of in
         let w = requestedOf range sigma in
         begins (exchange place w) (Exchange place range x) a q (both (placed (exchange place w) n) (true && true) q refl)
-        (ap (λ (y : Requested). whole.asked c (exchange place y) place y) (ap (requestedAt range) ex ∙ as-given range sigma e) ∙ sym (exchange-sound place w true e))
+        (ap (λ (y : Requested). whole.editQuestions c (exchange place y) place y) (ap (requestedAt range) ex ∙ as-given range sigma e) ∙ sym (exchange-sound place w true e))
         d
 
     -- taking out

@@ -278,7 +278,7 @@ pub fn refuse(s: Session) -> Answer
 }
 
 // The finished run that stands, unless an edit has a question open.
-fn standing(s: Session) -> Fitted
+fn standing_fit(s: Session) -> Fitted
     ensures { λ r. ⌜ fittedSays r ≡ fittedIn (state s) ⌝ }
 {
     let run = s.run;
@@ -312,7 +312,7 @@ pub fn put_in(s: Session, place: usize, range: f64, sigma: Number) -> Answer
     ensures { λ r. ⌜ Edited seen s (putIn place (requestedOf range sigma)) (r .step) (r .session) ⌝ }
 {
     let run = s.run;
-    match standing(s) {
+    match standing_fit(s) {
         Fitted::Unfitted => declined(s, 14),
         Fitted::FittedAt(p, n) => {
             let change = Change::PutIn(place, range, lists::stored_sigma(sigma));
@@ -335,7 +335,7 @@ pub fn take_out(s: Session, place: usize) -> Answer
     ensures { λ r. ⌜ Edited seen s (takeOut place) (r .step) (r .session) ⌝ }
 {
     let run = s.run;
-    match standing(s) {
+    match standing_fit(s) {
         Fitted::Unfitted => declined(s, 14),
         Fitted::FittedAt(_p, n) => {
             let change = Change::TakeOut(place);
@@ -358,7 +358,7 @@ pub fn exchange(s: Session, place: usize, range: f64, sigma: Number) -> Answer
     ensures { λ r. ⌜ Edited seen s (exchange place (requestedOf range sigma)) (r .step) (r .session) ⌝ }
 {
     let run = s.run;
-    match standing(s) {
+    match standing_fit(s) {
         Fitted::Unfitted => declined(s, 14),
         Fitted::FittedAt(p, n) => {
             let change = Change::Exchange(place, range, lists::stored_sigma(sigma));

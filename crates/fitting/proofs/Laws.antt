@@ -146,13 +146,13 @@ poll-stops m n s h = go (1024 - n) (omega arith)
     go zero e = refl
     go (suc k) e = absurd (omega arith)
 
-poll-goes-on : (m : Measured) (n : ℕ) (s : mesh.Pass) → n < 1024 → mesh.poll m (1024 - n) s ≡ mesh.onTurn m (mesh.poll m (1023 - n)) (mesh.turn s)
+poll-goes-on : (m : Measured) (n : ℕ) (s : mesh.Pass) → n < 1024 → mesh.poll m (1024 - n) s ≡ mesh.onPollStep m (mesh.poll m (1023 - n)) (mesh.pollStep s)
 unfolding mesh.poll
 poll-goes-on m n s h = go (1024 - n) (1023 - n) (omega arith)
   where
-    go : (k l : ℕ) → k ≡ suc l → mesh.poll m k s ≡ mesh.onTurn m (mesh.poll m l) (mesh.turn s)
+    go : (k l : ℕ) → k ≡ suc l → mesh.poll m k s ≡ mesh.onPollStep m (mesh.poll m l) (mesh.pollStep s)
     go zero l e = absurd (omega arith)
-    go (suc k) l e = let d : k ≡ l = omega arith in ap (λ (j : ℕ). mesh.onTurn m (mesh.poll m j) (mesh.turn s)) d
+    go (suc k) l e = let d : k ≡ l = omega arith in ap (λ (j : ℕ). mesh.onPollStep m (mesh.poll m j) (mesh.pollStep s)) d
 
 pub poll-stopped : (g : Progress) (r : Poll) (m : Measured) (ds : List Requested) → 1024 ≤ g .pass .evaluations → pollOf r ≡ mesh.stopped (passOf (g .pass))
     → polledAt g r m ds ≡ pollAt g m ds
@@ -160,19 +160,19 @@ poll-stopped g r m ds h e =
     ap (λ (x : mesh.Poll). afterPoll m ds g x) e
     ∙ ap (λ (t : Run mesh.Poll). bind t (afterPoll m ds g)) (sym (poll-stops m (g .pass .evaluations) (passOf (g .pass)) h))
 
--- what is left, by the next turn
-turn-by : (g : Progress) (m : Measured) (ds : List Requested) (t : mesh.Turn) → g .pass .evaluations < 1024 → t ≡ mesh.turn (passOf (g .pass))
-    → bind (mesh.onTurn m (mesh.poll m (1023 - g .pass .evaluations)) t) (afterPoll m ds g) ≡ pollAt g m ds
+-- what is left, by the next step of the poll
+turn-by : (g : Progress) (m : Measured) (ds : List Requested) (t : mesh.PollStep) → g .pass .evaluations < 1024 → t ≡ mesh.pollStep (passOf (g .pass))
+    → bind (mesh.onPollStep m (mesh.poll m (1023 - g .pass .evaluations)) t) (afterPoll m ds g) ≡ pollAt g m ds
 turn-by g m ds t h e =
-    ap (λ (x : mesh.Turn). bind (mesh.onTurn m (mesh.poll m (1023 - g .pass .evaluations)) x) (afterPoll m ds g)) e
+    ap (λ (x : mesh.PollStep). bind (mesh.onPollStep m (mesh.poll m (1023 - g .pass .evaluations)) x) (afterPoll m ds g)) e
     ∙ ap (λ (x : Run mesh.Poll). bind x (afterPoll m ds g)) (sym (poll-goes-on m (g .pass .evaluations) (passOf (g .pass)) h))
 
-pub poll-ended : (g : Progress) (r : Poll) (m : Measured) (ds : List Requested) → g .pass .evaluations < 1024 → mesh.ended (pollOf r) ≡ mesh.turn (passOf (g .pass))
+pub poll-ended : (g : Progress) (r : Poll) (m : Measured) (ds : List Requested) → g .pass .evaluations < 1024 → mesh.ended (pollOf r) ≡ mesh.pollStep (passOf (g .pass))
     → polledAt g r m ds ≡ pollAt g m ds
 poll-ended g r m ds h e = turn-by g m ds (mesh.ended (pollOf r)) h e
 
 pub poll-looks : (g : Progress) (c : Point) (s : Pass) (m : Measured) (ds : List Requested) → g .pass .evaluations < 1024
-    → mesh.evaluates c (passOf s) ≡ mesh.turn (passOf (g .pass))
+    → mesh.evaluates c (passOf s) ≡ mesh.pollStep (passOf (g .pass))
     → restOf m ds (withPass g s) (Wait.Look c) ≡ pollAt g m ds
 poll-looks g c s m ds h e =
     let same : s .evaluations ≡ g .pass .evaluations = ap evaluationsOf e ∙ turn-same (passOf (g .pass)) in

@@ -6,7 +6,7 @@ use map_fit::NextTrial;
 use matrix::Symmetric2;
 use objective_mesh::Pass;
 use objective_mesh::Poll;
-use objective_mesh::Turn;
+use objective_mesh::PollStep;
 ghost use mathlib.Core.Path.{_≡_};
 ghost use Rattle.fitting.specs.Meaning.{leftOf, Moves, AfterRows, Blank, foundAt, flatAt, iterationAt, candidateAt, polledAt, pollAt, startAt, afterTrial, afterLook};
 ghost use Rattle.fitting.specs.declared.Stage.the-variants as StageOf;
@@ -149,13 +149,13 @@ fn next_look(g: Progress) -> Moved
         let r = objective_mesh::stopped(pass);
         return polled(g, r);
     }
-    let turn = objective_mesh::next_turn(pass);
-    match turn {
-        Turn::Evaluates(c, pass) => Moved {
+    let step = objective_mesh::next_step(pass);
+    match step {
+        PollStep::Evaluates(c, pass) => Moved {
             progress: Progress { pass, ..g },
             wait: Wait::Look(c),
         },
-        Turn::Ended(r) => polled(g, r),
+        PollStep::Ended(r) => polled(g, r),
     }
 }
 

@@ -15,7 +15,7 @@ use Rattle.definition.specs.Host.{ends, refuses, play}
 use Rattle.definition.specs.Likelihood.{Rows, truingJacobianRows}
 use Rattle.definition.specs.Summary.{Finished}
 use Rattle.definition.specs.Whole.{soundRequestedOf, faultyRequested, noRows, Edit, putIn, takeOut, exchange, edited, placed, editedRows, renewed}
-use Rattle.definition.specs.Whole.{unlessMissing, asked, edit}
+use Rattle.definition.specs.Whole.{unlessMissing, editQuestions, edit}
 use Rattle.definition.specs.declared.Point.{Point}
 use Rattle.fresh_outcome.specs.Solver.{Solver, distancesOf, hostOf, withList, fresh, EditFresh, TakeOutFresh, ListKept}
 use Rattle.fresh_outcome.proofs.Lists.{insert-hit, insert-miss, set-hit, set-miss, remove-miss, map-insert, map-set, map-remove, insert-length, remove-shorter}
@@ -51,8 +51,8 @@ record Asks (σ : Solver) (p : Point) (e : Edit) (place : ℕ) (d : Requested) (
 
 asks : (σ : Solver) (o : Opening) (l : List Requested) (c : Finished) (w : Came σ o l c) (e : Edit) (place : ℕ) (d : Requested) (k : List Requested) (j : ℕ)
     → Asks σ (w .fit .point) e place d l k j
-    → play (hostOf σ (withList o l)) (bind (require (soundRequestedOf d) 7 place) (λ u. asked c e place d)) ≡ fresh σ o k
-unfolding asked
+    → play (hostOf σ (withList o l)) (bind (require (soundRequestedOf d) 7 place) (λ u. editQuestions c e place d)) ≡ fresh σ o k
+unfolding editQuestions
 asks σ o l c w e place d k j a = by-test (soundRequestedOf d) refl
   where
     one : Rows
@@ -80,9 +80,9 @@ asks σ o l c w e place d k j a = by-test (soundRequestedOf d) refl
     by-row true t z = ap (refuses 13) (a .at) ∙ sym (again σ o l c w k (a .room) z ∙ ap (λ (n : ℕ). closing n after) (a .gap t))
     by-row false t z = sym (again σ o l c w k (a .room) z ∙ ap (λ (n : ℕ). closing n after) (a .whole t) ∙ ap (λ (f : Finished). ends f) same)
 
-    by-test : (t : Bool) → soundRequestedOf d ≡ t → play (hostOf σ (withList o l)) (bind (require t 7 place) (λ u. asked c e place d)) ≡ fresh σ o k
+    by-test : (t : Bool) → soundRequestedOf d ≡ t → play (hostOf σ (withList o l)) (bind (require t 7 place) (λ u. editQuestions c e place d)) ≡ fresh σ o k
     by-test true t =
-        ap (λ (x : Finished). play (hostOf σ (withList o l)) (asked x e place d)) (w .is)
+        ap (λ (x : Finished). play (hostOf σ (withList o l)) (editQuestions x e place d)) (w .is)
         ∙ play-then (hostOf σ (withList o l)) (truingJacobianRows (w .fit .point) (new (d .range)))
         (λ one. bind (unlessMissing (one .gap) place) (λ u. done (renewed before e one))) one
         (five σ (hostOf σ (withList o l)) (new (d .range)) (d .range ∷ []) (λ q. refl) (w .fit .point) (w .served))
@@ -156,7 +156,7 @@ module _ (σ : Solver) (o : Opening) (l : List Requested) (c : Finished) (w : Ca
       inside = and-true (leb 1 i) (leb i (length l + 1)) p
 
       by-room : (t : Bool) → ltb (length (c .requested)) 64 ≡ t
-          → play (hostOf σ (withList o l)) (bind (require t 6 0) (λ u. bind (require (soundRequestedOf d) 7 i) (λ v. asked c (putIn i d) i d)))
+          → play (hostOf σ (withList o l)) (bind (require t 6 0) (λ u. bind (require (soundRequestedOf d) 7 i) (λ v. editQuestions c (putIn i d) i d)))
           ≡ fresh σ o (insertAt (i - 1) d l)
       by-room true t =
           asks σ o l c w (putIn i d) i d (insertAt (i - 1) d l) (i - 1)

@@ -15,7 +15,7 @@ ghost use Prim.Native.Nat.{min};
 ghost use lib.ListN.{take};
 ghost use Rattle.definition.specs.Lists.{firstOf, firstAt, zipWith3};
 ghost use Rattle.definition.specs.Run.{isMissing, dropOr0};
-ghost use Rattle.definition.specs.Likelihood.{chiSquareOf, withPriorOf, withPriorsOf, mvStepOf, bcStepOf, mvPlusAt, mvMinusAt, bcPlusAt, bcMinusAt, slope, slopes, rowOf, accumulateOf, sumsOf, priorInformationOf, withPriorGradientOf, sensitivityRatioOf, finishedOf};
+ghost use Rattle.definition.specs.Likelihood.{chiSquareOf, withPriorOf, withPriorsOf, mvStepOf, bcStepOf, mvPlusAt, mvMinusAt, bcPlusAt, bcMinusAt, slope, slopes, rowOf, accumulateOf, sumsOf, priorInformationOf, withPriorGradientOf, sensitivityRatioOf, fromSums};
 ghost use Rattle.definition.specs.Meaning.{observationsOf};
 ghost use Rattle.definition.specs.Session.{entryOf, entriesOf};
 ghost use Rattle.slices.specs.Slices.{shortestOf, laidOver};
@@ -328,7 +328,7 @@ fn sensitivity_ratio(fractional_mv: f64, fractional_bc: f64) -> f64
 
 // The sums with the priors.
 fn finished(priors: TruingPriorsV1, p: Point, sums: Sums) -> Evaluation
-    ensures { λ r. ⌜ r ≡ finishedOf priors p sums ⌝ }
+    ensures { λ r. ⌜ r ≡ fromSums priors p sums ⌝ }
 {
     let mv_prior = priors.muzzle_velocity_fps;
     let bc_prior = priors.ballistic_coefficient;
@@ -365,7 +365,7 @@ pub fn evaluate<'a>(
     by_mv: &'a [f64],
     by_bc: &'a [f64],
 ) -> Evaluation
-    ensures { λ r. ⌜ r ≡ finishedOf priors p (sumsOf p (observationsOf (now (ranges .entry)) (now (drops .entry)) (now (sigmas .entry))) (zipWith3 rowOf (now (predicted .entry)) (now («by_mv» .entry)) (now («by_bc» .entry)))) ⌝ }
+    ensures { λ r. ⌜ r ≡ fromSums priors p (sumsOf p (observationsOf (now (ranges .entry)) (now (drops .entry)) (now (sigmas .entry))) (zipWith3 rowOf (now (predicted .entry)) (now («by_mv» .entry)) (now («by_bc» .entry)))) ⌝ }
 {
     finished(
         priors,

@@ -13,7 +13,7 @@ use Rattle.definition.specs.Run.{Entry}
 use Rattle.words.specs.Words.{bytes, is}
 use Rattle.words.proofs.Rule.{same-length}
 use Rattle.numerals.specs.Numbers.{doubleOf, countOf}
-use Rattle.lines.specs.Lines.{Form, malformed, ifRead, sigmaOf, entryRead, inFront, entriesRead, enteredOf, shotOf, priorOf, distanceOf, putInOf}
+use Rattle.lines.specs.Lines.{Form, malformed, ifRead, sigmaRead, entryRead, inFront, entriesRead, enteredOf, shotOf, priorOf, distanceOf, putInOf}
 use Rattle.lines.specs.Lines.{exchangeOf, takeOutOf, dropsOf, with0, with1, with2, with3, formOfWords}
 use Rattle.numerals.proofs.Numbers.{no-double, long-count}
 
@@ -39,7 +39,7 @@ module _ (s : List ℕ) (t : long s ≡ true) where
   pub long-other : (w : String) → length (bytes w) ≤ 20 → is w s ≡ false
   long-other w k = same-length s (bytes w) (λ e. omega (arith, e, h))
 
-  pub long-sigma : sigmaOf s ≡ none
+  pub long-sigma : sigmaRead s ≡ none
   long-sigma = rw (long-double, long-other "none" (omega arith))
 
   pub long-entry : entryRead s ≡ none

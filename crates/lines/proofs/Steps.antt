@@ -21,7 +21,7 @@ use Rattle.lines.specs.declared.Reply.{Reply}
 use Rattle.lines.specs.declared.Line.{Line}
 use Rattle.numerals.specs.Numbers.{doubleOf, countOf, saysDouble, saysCount}
 use Rattle.lines.specs.Lines.{entryFrom, onFront, afterOpen, beforeClose}
-use Rattle.lines.specs.Reading.{asDouble, asCount, readingOf, spoiledOf, withFieldOf, pushOf, withEntryOf, feedOf, feedIf, endOf, endIf, takeOf}
+use Rattle.lines.specs.Reading.{asDouble, asCount, wordReading, spoiledOf, withFieldOf, pushOf, withEntryOf, feedOf, feedIf, endOf, endIf, takeOf}
 
 -- ---- a word
 
@@ -37,8 +37,8 @@ abbrev made : ℕ → ReadDouble → ReadCount → Reading
 made x y z = record { word = x; double = y; count = z }
 
 pub read-word : (s : List ℕ) (n : ℕ) (d : ReadDouble) (k : ReadCount) → n ≡ placeOf s → saysDouble d ≡ doubleOf s → saysCount k ≡ countOf s
-    → _≡_ {A = Reading} (record { word = n; double = d; count = k }) (readingOf s)
-unfolding readingOf
+    → _≡_ {A = Reading} (record { word = n; double = d; count = k }) (wordReading s)
+unfolding wordReading
 read-word s n d k a b c =
     ap (λ (x : ℕ). made x d k) a
     ∙ ap (λ (x : ReadDouble). made (placeOf s) x k) (sym (as-double d) ∙ ap asDouble b)
@@ -90,19 +90,19 @@ module _ (l : Line) (s : List ℕ) where
   unfolding feedOf
   feed-long h = rw (lt-ltb 20 (length s) h)
 
-  pub feed-first : (f : Fields) → length s ≤ 20 → l .fields .n ≡ 0 → f ≡ withFieldOf (l .fields .n) (l .fields) (readingOf s)
+  pub feed-first : (f : Fields) → length s ≤ 20 → l .fields .n ≡ 0 → f ≡ withFieldOf (l .fields .n) (l .fields) (wordReading s)
       → _≡_ {A = Line} (record { sound = l .sound; fields = f; reply = l .reply }) (feedOf l s)
   unfolding feedOf
   feed-first f h z e =
       ap (λ (g : Fields). lined (l .sound) g (l .reply)) e ∙ sym (rw (le-ltb 20 (length s) h, eq-eqb (l .fields .n) 0 z))
 
-  pub feed-next : (f : Fields) (r : Reply) → length s ≤ 20 → (l .fields .n ≡ 0 → ⊥) → f ≡ withFieldOf (l .fields .n) (l .fields) (readingOf s)
-      → r ≡ withEntryOf (l .reply) (entryFrom (saysDouble (readingOf s .double)) (eqb (readingOf s .word) (place "missing")))
+  pub feed-next : (f : Fields) (r : Reply) → length s ≤ 20 → (l .fields .n ≡ 0 → ⊥) → f ≡ withFieldOf (l .fields .n) (l .fields) (wordReading s)
+      → r ≡ withEntryOf (l .reply) (entryFrom (saysDouble (wordReading s .double)) (eqb (wordReading s .word) (place "missing")))
       → _≡_ {A = Line} (record { sound = l .sound; fields = f; reply = r }) (feedOf l s)
   unfolding feedOf
   feed-next f r h z e g =
       ap (λ (x : Fields). lined (l .sound) x r) e
-      ∙ ap (λ (y : Reply). lined (l .sound) (withFieldOf (l .fields .n) (l .fields) (readingOf s)) y) g
+      ∙ ap (λ (y : Reply). lined (l .sound) (withFieldOf (l .fields .n) (l .fields) (wordReading s)) y) g
       ∙ sym (rw (le-ltb 20 (length s) h, ne-eqb (l .fields .n) 0 z))
 
 -- ---- parentheses

@@ -28,7 +28,7 @@ use Rattle.lines.specs.Lines.{
   refused,
   asked,
   ifRead,
-  sigmaOf,
+  sigmaRead,
   entryFrom,
   entryRead,
   inFront,
@@ -49,7 +49,7 @@ use Rattle.lines.specs.Lines.{
   with3,
   formOfWords,
 }
-use Rattle.lines.specs.Reading.{entriesIn, asDouble, asCount, readingOf, blank, startOf, withFieldOf, pushOf, withEntryOf}
+use Rattle.lines.specs.Reading.{entriesIn, asDouble, asCount, wordReading, blank, startOf, withFieldOf, pushOf, withEntryOf}
 use Rattle.lines.specs.Reading.{feedOf, doubleIn, countIn, sigmaIn, enteredIn, shotIn, priorIn, distanceIn, openIn, putInIn, exchangeIn, takeOutIn}
 use Rattle.lines.specs.Reading.{dropsIn, aloneIn, namedIn, formIn, short}
 use Rattle.lines.proofs.Steps.{field-0, field-1, field-2, field-3, field-4, push-full, push-room, feed-long, feed-first, feed-next}
@@ -149,25 +149,25 @@ entries-snoc (w ∷ ws) s = ap (inFront (entryRead w)) (entries-snoc ws s) ∙ f
 -- the fields of the first word and the others
 record Tells (f : Fields) (w : List ℕ) (ws : List (List ℕ)) : Type 0 where
   n : f .n ≡ suc (min 4 (length ws))
-  first : f .first ≡ readingOf w
-  second : f .second ≡ readingOf (getD ws 0 [])
-  third : f .third ≡ readingOf (getD ws 1 [])
-  fourth : f .fourth ≡ readingOf (getD ws 2 [])
+  first : f .first ≡ wordReading w
+  second : f .second ≡ wordReading (getD ws 0 [])
+  third : f .third ≡ wordReading (getD ws 1 [])
+  fourth : f .fourth ≡ wordReading (getD ws 2 [])
 
-field-tells : (f : Fields) (w : List ℕ) (ws : List (List ℕ)) (s : List ℕ) → Tells f w ws → Tells (withFieldOf (f .n) f (readingOf s)) w (ws ++ s ∷ [])
+field-tells : (f : Fields) (w : List ℕ) (ws : List (List ℕ)) (s : List ℕ) → Tells f w ws → Tells (withFieldOf (f .n) f (wordReading s)) w (ws ++ s ∷ [])
 field-tells f w [] s t =
-    subst (λ (g : Fields). Tells g w (s ∷ [])) (field-1 (f .n) f (readingOf s) (t .n))
+    subst (λ (g : Fields). Tells g w (s ∷ [])) (field-1 (f .n) f (wordReading s) (t .n))
     (record { n = refl; first = t .first; second = refl; third = t .third; fourth = t .fourth })
 field-tells f w (a ∷ []) s t =
-    subst (λ (g : Fields). Tells g w (a ∷ s ∷ [])) (field-2 (f .n) f (readingOf s) (t .n))
+    subst (λ (g : Fields). Tells g w (a ∷ s ∷ [])) (field-2 (f .n) f (wordReading s) (t .n))
     (record { n = refl; first = t .first; second = t .second; third = refl; fourth = t .fourth })
 field-tells f w (a ∷ b ∷ []) s t =
-    subst (λ (g : Fields). Tells g w (a ∷ b ∷ s ∷ [])) (field-3 (f .n) f (readingOf s) (t .n))
+    subst (λ (g : Fields). Tells g w (a ∷ b ∷ s ∷ [])) (field-3 (f .n) f (wordReading s) (t .n))
     (record { n = refl; first = t .first; second = t .second; third = t .third; fourth = refl })
 field-tells f w (a ∷ b ∷ c ∷ ws) s t =
     let e = t .n in
     subst (λ (g : Fields). Tells g w (a ∷ b ∷ c ∷ ws ++ s ∷ []))
-    (field-4 (f .n) f (readingOf s) (λ z. omega (arith, z)) (λ z. omega (arith, z)) (λ z. omega (arith, z)) (λ z. omega (arith, z)))
+    (field-4 (f .n) f (wordReading s) (λ z. omega (arith, z)) (λ z. omega (arith, z)) (λ z. omega (arith, z)) (λ z. omega (arith, z)))
     (record { n = omega (arith, length-append ws (s ∷ [])); first = t .first; second = t .second; third = t .third; fourth = t .fourth })
 
 -- ---- a line of short words
@@ -180,23 +180,23 @@ says-count : (o : Option ℕ) → saysCount (asCount o) ≡ o
 says-count none = refl
 says-count (some n) = refl
 
-double-of : (s : List ℕ) → doubleIn (readingOf s) ≡ doubleOf s
-unfolding readingOf
+double-of : (s : List ℕ) → doubleIn (wordReading s) ≡ doubleOf s
+unfolding wordReading
 double-of s = says-double (doubleOf s)
 
-count-of : (s : List ℕ) → countIn (readingOf s) ≡ countOf s
-unfolding readingOf
+count-of : (s : List ℕ) → countIn (wordReading s) ≡ countOf s
+unfolding wordReading
 count-of s = says-count (countOf s)
 
 -- the rule of the table of words, for a word that is read
-word-of : (w : String) → ltb (place w) (length words) ≡ true → (s : List ℕ) → eqb (readingOf s .word) (place w) ≡ is w s
-unfolding readingOf
+word-of : (w : String) → ltb (place w) (length words) ≡ true → (s : List ℕ) → eqb (wordReading s .word) (place w) ≡ is w s
+unfolding wordReading
 word-of w h s = named w h s
 
-entry-of : (s : List ℕ) → entryFrom (saysDouble (readingOf s .double)) (eqb (readingOf s .word) (place "missing")) ≡ entryRead s
+entry-of : (s : List ℕ) → entryFrom (saysDouble (wordReading s .double)) (eqb (wordReading s .word) (place "missing")) ≡ entryRead s
 entry-of s = rw (double-of s, word-of "missing" refl s)
 
-sigma-of : (s : List ℕ) → sigmaIn (readingOf s) ≡ sigmaOf s
+sigma-of : (s : List ℕ) → sigmaIn (wordReading s) ≡ sigmaRead s
 sigma-of s = rw (double-of s, word-of "none" refl s)
 
 record Tracks (l : Line) (w : List ℕ) (ws : List (List ℕ)) : Type 0 where
@@ -206,28 +206,28 @@ record Tracks (l : Line) (w : List ℕ) (ws : List (List ℕ)) : Type 0 where
 
 feed-tracks : (l : Line) (w : List ℕ) (ws : List (List ℕ)) (s : List ℕ) → length s ≤ 20 → Tracks l w ws → Tracks (feedOf l s) w (ws ++ s ∷ [])
 feed-tracks l w ws s h t =
-    let r = withEntryOf (l .reply) (entryFrom (saysDouble (readingOf s .double)) (eqb (readingOf s .word) (place "missing"))) in
+    let r = withEntryOf (l .reply) (entryFrom (saysDouble (wordReading s .double)) (eqb (wordReading s .word) (place "missing"))) in
     subst (λ (x : Line). Tracks x w (ws ++ s ∷ []))
-    (feed-next l s (withFieldOf (l .fields .n) (l .fields) (readingOf s)) r h (λ z. omega (arith, z, t .fields .n)) refl refl)
+    (feed-next l s (withFieldOf (l .fields .n) (l .fields) (wordReading s)) r h (λ z. omega (arith, z, t .fields .n)) refl refl)
     (record {
       sound = t .sound;
       fields = field-tells (l .fields) w ws s (t .fields);
       reply =
           subst (Holds r) (sym (entries-snoc ws s))
           (subst (λ (e : Option Entry). Holds r (behind (entriesRead ws) e)) (entry-of s)
-          (entry-holds (l .reply) (entriesRead ws) (entryFrom (saysDouble (readingOf s .double)) (eqb (readingOf s .word) (place "missing"))) (t .reply)));
+          (entry-holds (l .reply) (entriesRead ws) (entryFrom (saysDouble (wordReading s .double)) (eqb (wordReading s .word) (place "missing"))) (t .reply)));
     })
 
-no-word : blank ≡ readingOf []
-unfolding readingOf placeOf doubleOf countOf
+no-word : blank ≡ wordReading []
+unfolding wordReading placeOf doubleOf countOf
 no-word = refl
 
 first-tracks : (w : List ℕ) → length w ≤ 20 → Tracks (feedOf startOf w) w []
 unfolding startOf
 first-tracks w h =
     subst (λ (x : Line). Tracks x w [])
-    (feed-first startOf w (record { n = 1; first = readingOf w; second = blank; third = blank; fourth = blank }) h refl
-    (field-0 0 (startOf .fields) (readingOf w) refl))
+    (feed-first startOf w (record { n = 1; first = wordReading w; second = blank; third = blank; fourth = blank }) h refl
+    (field-0 0 (startOf .fields) (wordReading w) refl))
     (record {
       sound = refl;
       fields = record { n = refl; first = refl; second = no-word; third = no-word; fourth = no-word };
@@ -314,18 +314,18 @@ module _ (f : Fields) (w : List ℕ) (ws : List (List ℕ)) (t : Tells f w ws) w
   tells-0 : (x : Form) → Whole x → Keeps (aloneIn f x) (with0 x ws)
   tells-0 x k = still (rw (told (f .n) 0 (length ws) (t .n) (omega arith)) (with0-is x ws)) (all-0 Whole refl x ws k)
 
-  tells-1 : (g : Reading → Form) (h : List ℕ → Form) → ((a : List ℕ) → g (readingOf a) ≡ h a) → ((a : List ℕ) → Whole (h a))
+  tells-1 : (g : Reading → Form) (h : List ℕ → Form) → ((a : List ℕ) → g (wordReading a) ≡ h a) → ((a : List ℕ) → Whole (h a))
       → Keeps (cond (eqb (f .n) 2) (g (f .second)) malformed) (with1 h ws)
   tells-1 g h e k = still (rw (told (f .n) 1 (length ws) (t .n) (omega arith), t .second, e (getD ws 0 [])) (with1-is h ws)) (all-1 Whole refl h ws k)
 
-  tells-2 : (g : Reading → Reading → Form) (h : List ℕ → List ℕ → Form) → ((a b : List ℕ) → g (readingOf a) (readingOf b) ≡ h a b)
+  tells-2 : (g : Reading → Reading → Form) (h : List ℕ → List ℕ → Form) → ((a b : List ℕ) → g (wordReading a) (wordReading b) ≡ h a b)
       → ((a b : List ℕ) → Whole (h a b)) → Keeps (cond (eqb (f .n) 3) (g (f .second) (f .third)) malformed) (with2 h ws)
   tells-2 g h e k =
       still (rw (told (f .n) 2 (length ws) (t .n) (omega arith), t .second, t .third, e (getD ws 0 []) (getD ws 1 [])) (with2-is h ws))
       (all-2 Whole refl h ws k)
 
   tells-3 : (g : Reading → Reading → Reading → Form) (h : List ℕ → List ℕ → List ℕ → Form)
-      → ((a b c : List ℕ) → g (readingOf a) (readingOf b) (readingOf c) ≡ h a b c) → ((a b c : List ℕ) → Whole (h a b c))
+      → ((a b c : List ℕ) → g (wordReading a) (wordReading b) (wordReading c) ≡ h a b c) → ((a b c : List ℕ) → Whole (h a b c))
       → Keeps (cond (eqb (f .n) 4) (g (f .second) (f .third) (f .fourth)) malformed) (with3 h ws)
   tells-3 g h e k =
       still
@@ -351,11 +351,11 @@ module _ (f : Fields) (w : List ℕ) (ws : List (List ℕ)) (t : Tells f w ws) w
       (λ a b c. rw (word-of "speed" refl a, word-of "coefficient" refl a, double-of b, double-of c))
       (λ a b c. whole-if (doubleOf b) _ (λ y. whole-if (doubleOf c) _ (λ z. whole-prior (is "speed" a) (is "coefficient" a) y z)))
 
-  distance-tells : Keeps (distanceIn f) (with2 (λ a b. distanceOf (doubleOf a) (sigmaOf b)) ws)
+  distance-tells : Keeps (distanceIn f) (with2 (λ a b. distanceOf (doubleOf a) (sigmaRead b)) ws)
   unfolding distanceIn distanceOf
   distance-tells =
       tells-2 (λ x y. distanceOf (doubleIn x) (sigmaIn y)) _ (λ a b. rw (double-of a, sigma-of b))
-      (λ a b. whole-if (doubleOf a) _ (λ x. whole-if (sigmaOf b) _ (λ y. refl)))
+      (λ a b. whole-if (doubleOf a) _ (λ x. whole-if (sigmaRead b) _ (λ y. refl)))
 
   open-tells : Keeps (openIn f) (with1 (λ a. openOf (is "plain" a)) ws)
   unfolding openIn
@@ -365,23 +365,23 @@ module _ (f : Fields) (w : List ℕ) (ws : List (List ℕ)) (t : Tells f w ws) w
   drops-tells r none k = record { kept = rw k }
   drops-tells r (some es) k = record { kept = ap (dropsIn (entriesIn r)) (k .0) ∙ ap drops (k .1 .entries) }
 
-  put-in-tells : Keeps (putInIn f) (with3 (λ a b c. putInOf (countOf a) (doubleOf b) (sigmaOf c)) ws)
+  put-in-tells : Keeps (putInIn f) (with3 (λ a b c. putInOf (countOf a) (doubleOf b) (sigmaRead c)) ws)
   unfolding putInIn putInOf
   put-in-tells =
       tells-3 (λ x y z. putInOf (countIn x) (doubleIn y) (sigmaIn z)) _ (λ a b c. rw (count-of a, double-of b, sigma-of c))
-      (λ a b c. whole-if (countOf a) _ (λ x. whole-if (doubleOf b) _ (λ y. whole-if (sigmaOf c) _ (λ z. refl))))
+      (λ a b c. whole-if (countOf a) _ (λ x. whole-if (doubleOf b) _ (λ y. whole-if (sigmaRead c) _ (λ z. refl))))
 
   take-out-tells : Keeps (takeOutIn f) (with1 (λ a. takeOutOf (countOf a)) ws)
   unfolding takeOutIn takeOutOf
   take-out-tells = tells-1 (λ x. takeOutOf (countIn x)) _ (λ a. rw (count-of a)) (λ a. whole-if (countOf a) _ (λ x. refl))
 
-  exchange-tells : Keeps (exchangeIn f) (with3 (λ a b c. exchangeOf (countOf a) (doubleOf b) (sigmaOf c)) ws)
+  exchange-tells : Keeps (exchangeIn f) (with3 (λ a b c. exchangeOf (countOf a) (doubleOf b) (sigmaRead c)) ws)
   unfolding exchangeIn exchangeOf
   exchange-tells =
       tells-3 (λ x y z. exchangeOf (countIn x) (doubleIn y) (sigmaIn z)) _ (λ a b c. rw (count-of a, double-of b, sigma-of c))
-      (λ a b c. whole-if (countOf a) _ (λ x. whole-if (doubleOf b) _ (λ y. whole-if (sigmaOf c) _ (λ z. refl))))
+      (λ a b c. whole-if (countOf a) _ (λ x. whole-if (doubleOf b) _ (λ y. whole-if (sigmaRead c) _ (λ z. refl))))
 
-  form-tells : (r : Reply) → Holds r (entriesRead ws) → Keeps (namedIn (entriesIn r) (r .sound) (readingOf w .word) f) (formOfWords (w ∷ ws))
+  form-tells : (r : Reply) → Holds r (entriesRead ws) → Keeps (namedIn (entriesIn r) (r .sound) (wordReading w .word) f) (formOfWords (w ∷ ws))
   form-tells r k =
       pick (word-of "entered" refl w) entered-tells
       (pick (word-of "shot" refl w) shot-tells

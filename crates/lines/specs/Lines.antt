@@ -39,8 +39,8 @@ sigmaFrom none true = some none
 sigmaFrom none false = none
 
 -- a sigma: a double or the word none
-abbrev pub sigmaOf : List ℕ → Option (Option Float)
-sigmaOf w = sigmaFrom (doubleOf w) (is "none" w)
+abbrev pub sigmaRead : List ℕ → Option (Option Float)
+sigmaRead w = sigmaFrom (doubleOf w) (is "none" w)
 
 -- an entry, of a word that is read as a double, and that may be the word missing
 abbrev pub entryFrom : Option Float → Bool → Option Entry
@@ -135,13 +135,13 @@ formOfWords (w ∷ ws) =
     cond (is "entered" w) (with2 (λ a b. enteredOf (doubleOf a) (doubleOf b)) ws)
     (cond (is "shot" w) (with3 (λ a b c. shotOf (doubleOf a) (doubleOf b) (doubleOf c)) ws)
     (cond (is "prior" w) (with3 (λ a b c. priorOf (is "speed" a) (is "coefficient" a) (doubleOf b) (doubleOf c)) ws)
-    (cond (is "distance" w) (with2 (λ a b. distanceOf (doubleOf a) (sigmaOf b)) ws)
+    (cond (is "distance" w) (with2 (λ a b. distanceOf (doubleOf a) (sigmaRead b)) ws)
     (cond (is "open" w) (with1 (λ a. openOf (is "plain" a)) ws)
     (cond (is "drops" w) (dropsOf (entriesRead ws))
     (cond (is "refused" w) (with0 refused ws)
-    (cond (is "put-in" w) (with3 (λ a b c. putInOf (countOf a) (doubleOf b) (sigmaOf c)) ws)
+    (cond (is "put-in" w) (with3 (λ a b c. putInOf (countOf a) (doubleOf b) (sigmaRead c)) ws)
     (cond (is "take-out" w) (with1 (λ a. takeOutOf (countOf a)) ws)
-    (cond (is "exchange" w) (with3 (λ a b c. exchangeOf (countOf a) (doubleOf b) (sigmaOf c)) ws)
+    (cond (is "exchange" w) (with3 (λ a b c. exchangeOf (countOf a) (doubleOf b) (sigmaRead c)) ws)
     (cond (is "asked" w) (with0 asked ws) malformed))))))))))
 
 -- ---- lines

@@ -75,8 +75,8 @@ asCount none = readCount.Malformed
 asCount (some n) = readCount.Count n
 
 -- a word as a fixed word, as a double and as a count
-unfoldable pub readingOf : List ℕ → Reading
-readingOf s = record { word = placeOf s; double = asDouble (doubleOf s); count = asCount (countOf s) }
+unfoldable pub wordReading : List ℕ → Reading
+wordReading s = record { word = placeOf s; double = asDouble (doubleOf s); count = asCount (countOf s) }
 
 -- no word
 abbrev pub blank : Reading
@@ -122,11 +122,11 @@ unfoldable pub feedOf : Line → List ℕ → Line
 feedOf l s =
     cond (ltb 20 (length s)) (spoiledOf l)
     (cond (eqb (l .fields .n) 0)
-    (record { sound = l .sound; fields = withFieldOf (l .fields .n) (l .fields) (readingOf s); reply = l .reply })
+    (record { sound = l .sound; fields = withFieldOf (l .fields .n) (l .fields) (wordReading s); reply = l .reply })
     (record {
       sound = l .sound;
-      fields = withFieldOf (l .fields .n) (l .fields) (readingOf s);
-      reply = withEntryOf (l .reply) (entryFrom (saysDouble (readingOf s .double)) (eqb (readingOf s .word) (place "missing")));
+      fields = withFieldOf (l .fields .n) (l .fields) (wordReading s);
+      reply = withEntryOf (l .reply) (entryFrom (saysDouble (wordReading s .double)) (eqb (wordReading s .word) (place "missing")));
     }))
 
 -- ---- the form of what was read

@@ -13,7 +13,7 @@ ghost use Rattle.words.specs.Words.{place};
 ghost use Rattle.numerals.specs.Numbers.{digitOf, glyphOf, numberFrom, digitsOf, doubleOf, doubleText, saysDouble, within64, countOf, placesOf, countText, in20, saysCount};
 ghost use Rattle.definition.specs.Run.{Entry};
 ghost use Rattle.lines.specs.Lines.{entryFrom, sigmaFrom, refused, asked, priorBy, openOf};
-ghost use Rattle.lines.specs.Reading.{readingOf, blank, startOf, spoiledOf, withFieldOf, pushOf, withEntryOf, saysEntry, feedOf, saysSigma, entriesIn, formSays, enteredIn, shotIn, priorIn, distanceIn, openIn, putInIn, exchangeIn, takeOutIn, aloneIn, dropsIn, sessionIn, namedIn, formIn, endOf, takeOf};
+ghost use Rattle.lines.specs.Reading.{wordReading, blank, startOf, spoiledOf, withFieldOf, pushOf, withEntryOf, saysEntry, feedOf, saysSigma, entriesIn, formSays, enteredIn, shotIn, priorIn, distanceIn, openIn, putInIn, exchangeIn, takeOutIn, aloneIn, dropsIn, sessionIn, namedIn, formIn, endOf, takeOf};
 
 enum ReadSigma {
     Malformed,
@@ -76,7 +76,7 @@ pub struct Line {
 
 // The word s in each way that a field can be read.
 fn read_word(s: &[u8]) -> Reading
-    ensures { λ r. ⌜ r ≡ readingOf (now (s .entry)) ⌝ }
+    ensures { λ r. ⌜ r ≡ wordReading (now (s .entry)) ⌝ }
 {
     Reading {
         word: words::find(s),

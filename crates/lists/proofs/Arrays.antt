@@ -21,10 +21,10 @@ use Rattle.definition.specs.declared.Number.the-variants.{Absent, Given}
 use Rattle.definition.specs.Whole.{positiveOf, soundRequestedOf, faultyRequested}
 use Rattle.slices.specs.Slices.{laidOver, shortestOf}
 use Rattle.likelihood.proofs.Laws.{over-suc, over-all, zip-length, zip-take, zip3-take, zip3-shortest, zip3-within, cond-none}
-use Rattle.opening.specs.Opening.{futureOf, wantedAt, requestedFrom}
+use Rattle.opening.specs.Opening.{sigmaGiven, wantedAt, requestedFrom}
 use Rattle.report.specs.Places.{sigmaOf, requestedAt}
 use lib.ListN.{length-take}
-use Rattle.lists.specs.Lists.{requestedOf, placesOf, sigmaOr0, storedSigma, shotsFrom, wantedFrom}
+use Rattle.lists.specs.Lists.{requestedIn, placesOf, sigmaOr0, storedSigma, shotsFrom, wantedFrom}
 use Rattle.lists.specs.declared.Wanted.{Wanted}
 
 -- ---- the arrays
@@ -90,7 +90,7 @@ positive-above x h = go (lt zero64 x) refl
     go false e = let l = at-least zero64 x refl (finite-number x (parts .0)) e in let n = not-true (le x zero64) (parts .1) in cc
 
 -- what is stored for a sound sigma stands for it
-pub stored-sigma : (range x : Float) (g : Bool) → faultyRequested (wantedAt range x g) ≡ false → sigmaOf (sigmaOr0 x g) ≡ futureOf x g
+pub stored-sigma : (range x : Float) (g : Bool) → faultyRequested (wantedAt range x g) ≡ false → sigmaOf (sigmaOr0 x g) ≡ sigmaGiven x g
 unfolding soundRequestedOf lt ofBits
 stored-sigma range x false h = refl
 stored-sigma range x true h =
@@ -113,7 +113,7 @@ stored-requested (r ∷ rs) (x ∷ xs) (g ∷ gs) h =
     ∙ ap (λ (l : List Requested). wantedAt r x g ∷ l) (stored-requested rs xs gs (b .1))
 
 pub wanted-requested : (ranges future : List Float) (given : List Bool) → length (requestedFrom ranges future given) ≤ 64
-    → firstAt faultyRequested (requestedFrom ranges future given) ≡ 0 → requestedOf (wantedFrom ranges future given) ≡ requestedFrom ranges future given
+    → firstAt faultyRequested (requestedFrom ranges future given) ≡ 0 → requestedIn (wantedFrom ranges future given) ≡ requestedFrom ranges future given
 wanted-requested ranges future given h s = go (shortestOf (length ranges) (length future) (length given)) (sym (zip3-shortest wantedAt ranges future given))
   where
     go : (n : ℕ) → n ≡ length (requestedFrom ranges future given)
@@ -127,7 +127,7 @@ wanted-requested ranges future given h s = go (shortestOf (length ranges) (lengt
         ∙ ap (λ (x : List Requested). take n x) (stored-requested ranges future given s)
         ∙ take-all n (requestedFrom ranges future given) (omega arith)
 
-pub wanted-some : (w : Wanted) → length (w .ranges) ≡ 64 → length (w .sigmas) ≡ 64 → w .n ≤ 64 → (w .n ≡ 0 → ⊥) → length (requestedOf w) ≡ 0 → ⊥
+pub wanted-some : (w : Wanted) → length (w .ranges) ≡ 64 → length (w .sigmas) ≡ 64 → w .n ≤ 64 → (w .n ≡ 0 → ⊥) → length (requestedIn w) ≡ 0 → ⊥
 wanted-some w r s h z e =
     let n = w .n in
     let l = zip-length requestedAt (take n (w .ranges)) (take n (w .sigmas)) in

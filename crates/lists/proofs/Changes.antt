@@ -18,7 +18,7 @@ use Rattle.report.specs.Places.{requestedAt}
 use Rattle.definition.specs.declared.Row.{Row}
 use Rattle.stencil.specs.Stencil.{rowsAt}
 use Rattle.stencil.specs.declared.StencilRows.{StencilRows}
-use Rattle.lists.specs.Lists.{requestedOf}
+use Rattle.lists.specs.Lists.{requestedIn}
 use Rattle.lists.specs.Changing.{editOf, rangeOf, sigmaIn, sizeAfter, roomy, rowsFrom}
 use Rattle.lists.specs.declared.Change.{Change}
 use Rattle.lists.specs.declared.Change.the-variants.{PutIn, TakeOut, Exchange}
@@ -107,7 +107,7 @@ pub wanted-changed : (w : Wanted) (x : Change) (ranges sigmas : List Float) (n :
     → n ≡ sizeAfter (editOf x) (w .n) → range ≡ rangeOf x → sigma ≡ sigmaIn x
     → take (sizeAfter (editOf x) (w .n)) ranges ≡ editedNumbers (editOf x) range (take (w .n) (w .ranges))
     → take (sizeAfter (editOf x) (w .n)) sigmas ≡ editedNumbers (editOf x) sigma (take (w .n) (w .sigmas))
-    → requestedOf (record { ranges = ranges; sigmas = sigmas; n = n }) ≡ edited (editOf x) (requestedOf w)
+    → requestedIn (record { ranges = ranges; sigmas = sigmas; n = n }) ≡ edited (editOf x) (requestedIn w)
 wanted-changed w x ranges sigmas n range sigma lr ls size re se r s =
     let e = editOf x in
     let a = length-take (w .n) (w .ranges) in

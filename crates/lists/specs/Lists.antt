@@ -21,12 +21,12 @@ use Rattle.lists.specs.declared.Wanted.{Wanted}
 abbrev pub observationsAt : Shots → List Observation
 observationsAt s = observationsOf (take (s .n) (s .ranges)) (take (s .n) (s .drops)) (take (s .n) (s .sigmas))
 
-abbrev pub requestedOf : Wanted → List Requested
-requestedOf w = zipWith requestedAt (take (w .n) (w .ranges)) (take (w .n) (w .sigmas))
+abbrev pub requestedIn : Wanted → List Requested
+requestedIn w = zipWith requestedAt (take (w .n) (w .ranges)) (take (w .n) (w .sigmas))
 
 -- whether the list of requested distances has an entry; within the 64 places their number says so
 pub record HasWanted (w : Wanted) (r : Bool) : Type 0 where
-  pub some-of : r ≡ true → w .n ≤ 64 → length (requestedOf w) ≡ 0 → ⊥
+  pub some-of : r ≡ true → w .n ≤ 64 → length (requestedIn w) ≡ 0 → ⊥
   pub none-of : r ≡ false → w .n ≡ 0
 
 -- ---- the lists of a request

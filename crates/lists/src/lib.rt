@@ -8,7 +8,7 @@ ghost use lib.Dec.{T};
 ghost use lib.ListN.{take};
 ghost use Rattle.definition.specs.Lists.{zipWith};
 ghost use Rattle.definition.specs.Whole.{edited, editedNumbers, editedRows, placed};
-ghost use Rattle.lists.specs.Lists.{requestedOf, HasWanted, placesOf, sigmaOr0, storedSigma, shotsFrom, wantedFrom};
+ghost use Rattle.lists.specs.Lists.{requestedIn, HasWanted, placesOf, sigmaOr0, storedSigma, shotsFrom, wantedFrom};
 ghost use Rattle.lists.specs.Changing.{editOf, rangeOf, sigmaIn, sizeAfter, roomy, rowsFrom};
 ghost use Rattle.stencil.specs.Stencil.{rowsAt};
 
@@ -209,7 +209,7 @@ fn changed_places(old: [f64; 64], n: usize, change: Change, x: f64) -> [f64; 64]
 
 // The list with the change made, where it fits.
 pub fn changed_wanted(w: Wanted, change: Change) -> Wanted
-    ensures { λ r. ⌜ (w .n ≤ 64 → T (placed (editOf change) (w .n)) → T (roomy (editOf change) (w .n)) → (requestedOf r ≡ edited (editOf change) (requestedOf w)) × (r .n ≡ sizeAfter (editOf change) (w .n))) ⌝ }
+    ensures { λ r. ⌜ (w .n ≤ 64 → T (placed (editOf change) (w .n)) → T (roomy (editOf change) (w .n)) → (requestedIn r ≡ edited (editOf change) (requestedIn w)) × (r .n ≡ sizeAfter (editOf change) (w .n))) ⌝ }
 {
     let n = w.n;
     let old_ranges = w.ranges;

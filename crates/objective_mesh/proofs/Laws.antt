@@ -95,7 +95,7 @@ module _ (s : mesh.Pass) {g : Bool} (e : g ≡ materialOf (s .current) (s .best)
   stopped-cut t z = simp (← e, t) (cut s (s .smaller) z)
 
 -- what a look comes to, by the case of its answer
-module _ (axis : Direction) {f : Looked} {w : mesh.Looked} (e : looksAs axis f ≡ w) (none : mesh.Turn) (some : Point → List Point → mesh.Turn) where
+module _ (axis : Direction) {f : Looked} {w : mesh.Looked} (e : looksAs axis f ≡ w) (none : mesh.PollStep) (some : Point → List Point → mesh.PollStep) where
   looked-moved : {c : Point} {next : ℕ} → f ≡ Moved c next → some c (drop next (mesh.directions axis)) ≡ mesh.onLook w none some
   looked-moved t = rw (← e, t)
 
@@ -109,7 +109,7 @@ module _ (axis : Direction) (radius : Float) (centre : Point) (current best : Fl
   ungained-end z e = rw (z, e)
 
   module _ {l : ℕ} (ek : k ≡ suc l) {r : Float} (er : r ≡ mesh.quarteredOf radius) where
-    smaller-radius : mesh.fresh axis r l centre current n (mesh.ungained axis r l centre current current n) ≡ mesh.ungained axis radius k centre current best n
+    smaller-radius : mesh.fromFirst axis r l centre current n (mesh.ungained axis r l centre current current n) ≡ mesh.ungained axis radius k centre current best n
     unfolding mesh.ungained
     smaller-radius = simp (ek, er)
 
@@ -131,12 +131,12 @@ module _ (axis : Direction) (radius : Float) (k : ℕ) (centre : Point) (current
   unfolding mesh.begin
   begin-moved t es = rw es (looked-moved axis ef _ _ t)
 
-  pub begin-none : {w : mesh.Turn} → f ≡ NoneMoved → w ≡ mesh.ungained axis radius k centre current current n → w ≡ mesh.begin axis radius k centre current n
+  pub begin-none : {w : mesh.PollStep} → f ≡ NoneMoved → w ≡ mesh.ungained axis radius k centre current current n → w ≡ mesh.begin axis radius k centre current n
   unfolding mesh.begin
   begin-none t e = e ∙ looked-none axis ef _ _ t
 
 -- the whole pass is judged
-module _ (s : mesh.Pass) {g : Bool} (e : g ≡ materialOf (s .current) (s .best)) {w : mesh.Turn} where
+module _ (s : mesh.Pass) {g : Bool} (e : g ≡ materialOf (s .current) (s .best)) {w : mesh.PollStep} where
   pub judged-gained : g ≡ true → w ≡ mesh.begin (s .axis) (s .radius) (s .smaller) (s .bestPoint) (s .best) (s .evaluations) → w ≡ mesh.judged s
   unfolding mesh.judged
   judged-gained t h = simp (← e, t) h
@@ -147,10 +147,10 @@ module _ (s : mesh.Pass) {g : Bool} (e : g ≡ materialOf (s .current) (s .best)
 
 -- what comes next in a pass
 module _ (s : mesh.Pass) {f : Looked} (ef : looksAs (s .axis) f ≡ mesh.look (s .radius) (s .centre) (s .remaining)) where
-  pub turn-moved : {c : Point} {next : ℕ} → f ≡ Moved c next → mesh.evaluates c (mesh.rest s (drop next (mesh.directions (s .axis)))) ≡ mesh.turn s
-  unfolding mesh.turn
-  turn-moved t = looked-moved (s .axis) ef _ _ t
+  pub step-moved : {c : Point} {next : ℕ} → f ≡ Moved c next → mesh.evaluates c (mesh.withRemaining s (drop next (mesh.directions (s .axis)))) ≡ mesh.pollStep s
+  unfolding mesh.pollStep
+  step-moved t = looked-moved (s .axis) ef _ _ t
 
-  pub turn-none : {w : mesh.Turn} → f ≡ NoneMoved → w ≡ mesh.judged s → w ≡ mesh.turn s
-  unfolding mesh.turn
-  turn-none t e = e ∙ looked-none (s .axis) ef _ _ t
+  pub step-none : {w : mesh.PollStep} → f ≡ NoneMoved → w ≡ mesh.judged s → w ≡ mesh.pollStep s
+  unfolding mesh.pollStep
+  step-none t e = e ∙ looked-none (s .axis) ef _ _ t

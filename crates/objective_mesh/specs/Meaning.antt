@@ -11,8 +11,8 @@ use Rattle.objective_mesh.specs.declared.Poll.{Poll}
 use Rattle.objective_mesh.specs.declared.Pass.{Pass}
 use Rattle.objective_mesh.specs.declared.Looked.{Looked}
 use Rattle.objective_mesh.specs.declared.Looked.the-variants.{Moved, NoneMoved}
-use Rattle.objective_mesh.specs.declared.Turn.{Turn}
-use Rattle.objective_mesh.specs.declared.Turn.the-variants.{Evaluates, Ended}
+use Rattle.objective_mesh.specs.declared.PollStep.{PollStep}
+use Rattle.objective_mesh.specs.declared.PollStep.the-variants.{Evaluates, Ended}
 
 -- the eighth direction, which `direction_at` gives past the end too
 abbrev pub lastDirection : Direction → Point
@@ -39,7 +39,7 @@ abbrev pub looksAs : Direction → Looked → mesh.Looked
 looksAs axis (Moved c next) = mesh.moved c (drop next (mesh.directions axis))
 looksAs axis NoneMoved = mesh.noneMoved
 
-abbrev pub says : Turn → mesh.Turn
+abbrev pub says : PollStep → mesh.PollStep
 says (Evaluates c s) = mesh.evaluates c (passOf s)
 says (Ended r) = mesh.ended (pollOf r)
 

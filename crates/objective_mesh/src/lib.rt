@@ -50,7 +50,7 @@ pub enum Looked {
 }
 
 // What comes next in the poll: a candidate to be evaluated, or its end.
-pub enum Turn {
+pub enum PollStep {
     Evaluates(Point, Pass),
     Ended(Poll),
 }
@@ -169,7 +169,7 @@ fn ungained(
     current: f64,
     best: f64,
     evaluations: usize,
-) -> Turn
+) -> PollStep
     ensures { λ r. ⌜ says r ≡ mesh.ungained axis radius smaller centre current best evaluations ⌝ }
 {
     let mut radius_now = radius;
@@ -181,12 +181,12 @@ fn ungained(
         let found = look(radius_now, centre, axis, 0);
         if let Looked::Moved(c, next) = found {
             let s = pass_at(axis, radius_now, left, centre, current, evaluations, next);
-            return Turn::Evaluates(c, s);
+            return PollStep::Evaluates(c, s);
         }
         best_now = current;
     }
     let r = searched(radius_now, centre, current, best_now, evaluations);
-    Turn::Ended(r)
+    PollStep::Ended(r)
 }
 
 // A new pass. Where every candidate is unmoved the best is the current one, and nothing is gained.
@@ -197,21 +197,21 @@ fn begin(
     centre: Point,
     current: f64,
     evaluations: usize,
-) -> Turn
+) -> PollStep
     ensures { λ r. ⌜ says r ≡ mesh.begin axis radius smaller centre current evaluations ⌝ }
 {
     let found = look(radius, centre, axis, 0);
     match found {
         Looked::Moved(c, next) => {
             let s = pass_at(axis, radius, smaller, centre, current, evaluations, next);
-            Turn::Evaluates(c, s)
+            PollStep::Evaluates(c, s)
         }
         Looked::NoneMoved => ungained(axis, radius, smaller, centre, current, current, evaluations),
     }
 }
 
 // The pass has looked in all eight directions: a material gain moves the centre and keeps radius and directions.
-fn judged(s: Pass) -> Turn
+fn judged(s: Pass) -> PollStep
     ensures { λ r. ⌜ says r ≡ mesh.judged (passOf s) ⌝ }
 {
     let axis = s.axis;
@@ -232,14 +232,14 @@ fn judged(s: Pass) -> Turn
 }
 
 // What comes next in the poll.
-pub fn next_turn(s: Pass) -> Turn
-    ensures { λ r. ⌜ says r ≡ mesh.turn (passOf s) ⌝ }
+pub fn next_step(s: Pass) -> PollStep
+    ensures { λ r. ⌜ says r ≡ mesh.pollStep (passOf s) ⌝ }
 {
     let axis = s.axis;
     let centre = s.centre;
     let found = look(s.radius, centre, axis, s.next);
     match found {
-        Looked::Moved(c, next) => Turn::Evaluates(c, Pass { next, ..s }),
+        Looked::Moved(c, next) => PollStep::Evaluates(c, Pass { next, ..s }),
         Looked::NoneMoved => judged(s),
     }
 }

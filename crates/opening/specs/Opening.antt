@@ -16,12 +16,12 @@ use Rattle.opening.specs.declared.Checked.the-variants.{Sound, Faulty}
 -- ---- the request in slices
 
 -- the sigma of a future observation is given where its flag is set
-abbrev pub futureOf : Float → Bool → Option Float
-futureOf x true = some x
-futureOf x false = none
+abbrev pub sigmaGiven : Float → Bool → Option Float
+sigmaGiven x true = some x
+sigmaGiven x false = none
 
 abbrev pub wantedAt : Float → Float → Bool → Requested
-wantedAt range sigma given = record { range = range; sigma = futureOf sigma given }
+wantedAt range sigma given = record { range = range; sigma = sigmaGiven sigma given }
 
 -- up to the end of the shortest of the three
 abbrev pub requestedFrom : List Float → List Float → List Bool → List Requested

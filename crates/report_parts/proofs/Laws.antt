@@ -12,7 +12,7 @@ use Rattle.definition.specs.Likelihood.{rowOf, rowsOf, chiSquareOf}
 use Rattle.definition.specs.Summary.{Approximation, resultOf, resultsOf, isOutside, bandOf}
 use Rattle.definition.specs.declared.Row.{Row}
 use Rattle.likelihood.proofs.Laws.{zip3-take, zip3-take-first, zip-take, chi-square-places}
-use Rattle.lists.specs.Lists.{requestedOf, observationsAt}
+use Rattle.lists.specs.Lists.{requestedIn, observationsAt}
 use Rattle.lists.specs.declared.Shots.{Shots}
 use Rattle.lists.specs.declared.Wanted.{Wanted}
 use Rattle.report.specs.Places.{requestedAt, anyOutsideOf}
@@ -49,7 +49,7 @@ bands-places a w t =
     ap (λ (l : List Requested). zipWith (bandOf a) l rows) (zip-take-first requestedAt (w .ranges) (w .sigmas) n ∙ zip-take requestedAt (w .ranges) (w .sigmas) n)
     ∙ zip-take-first (bandOf a) (zipWith requestedAt (w .ranges) (w .sigmas)) rows n
     ∙ ap (λ (l : List Requested). zipWith (bandOf a) l (take n rows)) (sym (zip-take requestedAt (w .ranges) (w .sigmas) n))
-    ∙ ap (λ (l : List Row). zipWith (bandOf a) (requestedOf w) l) (sym (zip3-take rowOf (t .predicted) (t .«by_mv») (t .«by_bc») n))
+    ∙ ap (λ (l : List Row). zipWith (bandOf a) (requestedIn w) l) (sym (zip3-take rowOf (t .predicted) (t .«by_mv») (t .«by_bc») n))
 
 taken-length : (n : ℕ) (xs : List Float) → length xs ≡ 64 → n ≤ 64 → length (take n xs) ≡ n
 taken-length n xs e h = let l = length-take n xs in omega arith
@@ -70,7 +70,7 @@ module _ (s : Shots) (r : length (s .ranges) ≡ 64) (d : length (s .drops) ≡ 
   counts-results predicted drops p q = record { observed = observed; results = results-length predicted p; entered = results-length drops q }
 
 module _ (w : Wanted) (t : StencilRows) (r : length (w .ranges) ≡ 64) (g : length (w .sigmas) ≡ 64) (p : length (t .predicted) ≡ 64) (m : length (t .«by_mv») ≡ 64) (b : length (t .«by_bc») ≡ 64) where
-  wanted : w .n ≤ 64 → length (requestedOf w) ≡ w .n
+  wanted : w .n ≤ 64 → length (requestedIn w) ≡ w .n
   wanted h =
       let x = taken-length (w .n) (w .ranges) r h in
       let y = taken-length (w .n) (w .sigmas) g h in
@@ -87,11 +87,11 @@ module _ (w : Wanted) (t : StencilRows) (r : length (w .ranges) ≡ 64) (g : len
   counts-bands = record {
     places = refl;
     requested = wanted;
-    bands = λ a h. let x = wanted h in zip-length (bandOf a) (requestedOf w) (rowsOf (rowsAt (w .n) t)) (rows h ∙ sym x) ∙ x;
+    bands = λ a h. let x = wanted h in zip-length (bandOf a) (requestedIn w) (rowsOf (rowsAt (w .n) t)) (rows h ∙ sym x) ∙ x;
   }
 
 pub outside-places : (s : Shots) (w : Wanted) → length (s .ranges) ≡ 64 → length (s .drops) ≡ 64 → length (s .sigmas) ≡ 64 → length (w .ranges) ≡ 64 → length (w .sigmas) ≡ 64
-    → s .n ≤ 64 → w .n ≤ 64 → anyOutsideOf (take (s .n) (s .ranges)) (take (w .n) (w .ranges)) ≡ any (isOutside (observationsAt s)) (requestedOf w)
+    → s .n ≤ 64 → w .n ≤ 64 → anyOutsideOf (take (s .n) (s .ranges)) (take (w .n) (w .ranges)) ≡ any (isOutside (observationsAt s)) (requestedIn w)
 outside-places s w r d g x y h k =
     let a = taken-length (s .n) (s .ranges) r h in
     sym (outside-requested (take (s .n) (s .ranges)) (take (s .n) (s .drops)) (take (s .n) (s .sigmas)) (take (w .n) (w .ranges)) (take (w .n) (w .sigmas))

@@ -11,7 +11,7 @@ use Rattle.definition.specs.Likelihood.{chiSquareOf, rowsOf}
 use Rattle.definition.specs.Summary.{Approximation, Band, resultsOf, bandOf}
 use Rattle.definition.specs.Summary as summary
 use Rattle.definition.specs.declared.Point.{Point}
-use Rattle.lists.specs.Lists.{requestedOf, observationsAt}
+use Rattle.lists.specs.Lists.{requestedIn, observationsAt}
 use Rattle.lists.specs.declared.Shots.{Shots}
 use Rattle.lists.specs.declared.Wanted.{Wanted}
 use Rattle.report.specs.Report.{Results}
@@ -22,7 +22,7 @@ abbrev pub resultsAt : Shots → List Float → Results
 resultsAt s drops = resultsOf (observationsAt s) (take (s .n) drops)
 
 abbrev pub bandsAt : Approximation → Wanted → StencilRows → List Band
-bandsAt a w t = zipWith (bandOf a) (requestedOf w) (rowsOf (rowsAt (w .n) t))
+bandsAt a w t = zipWith (bandOf a) (requestedIn w) (rowsOf (rowsAt (w .n) t))
 
 -- the baseline that these drops make, where there is one
 abbrev pub baselineAt : Shots → Point → List Float → Bool → Option summary.Baseline
@@ -38,5 +38,5 @@ pub record ResultsCount (s : Shots) (predicted drops : List Float) (r : ℕ) : T
 -- within the 64 places the count is that of the requested distances, and of their bands
 pub record BandsCount (w : Wanted) (t : StencilRows) (r : ℕ) : Type 0 where
   pub places : r ≡ w .n
-  pub requested : w .n ≤ 64 → length (requestedOf w) ≡ r
+  pub requested : w .n ≤ 64 → length (requestedIn w) ≡ r
   pub bands : (a : Approximation) → w .n ≤ 64 → length (bandsAt a w t) ≡ r

@@ -15,7 +15,7 @@ ghost use Rattle.definition.specs.Lists.{any};
 ghost use Rattle.definition.specs.Meaning.{convergenceOf, approximationSays};
 ghost use Rattle.definition.specs.Summary.{isOutside};
 ghost use Rattle.definition.specs.Summary as summary;
-ghost use Rattle.lists.specs.Lists.{requestedOf, observationsAt};
+ghost use Rattle.lists.specs.Lists.{requestedIn, observationsAt};
 ghost use Rattle.report.specs.Places.{nth, resultSays, bandAtSays};
 ghost use Rattle.report.specs.Report.{baselineSays};
 ghost use Rattle.report_parts.specs.Parts.{resultsAt, bandsAt, baselineAt, ResultsCount, BandsCount};
@@ -36,7 +36,7 @@ pub fn bands_count(wanted: Wanted, table: StencilRows) -> usize
 
 // Whether a requested distance lies outside the observed ones.
 pub fn any_outside(shots: Shots, wanted: Wanted) -> bool
-    ensures { λ r. ⌜ (shots .n ≤ 64 → wanted .n ≤ 64 → r ≡ any (isOutside (observationsAt shots)) (requestedOf wanted)) ⌝ }
+    ensures { λ r. ⌜ (shots .n ≤ 64 → wanted .n ≤ 64 → r ≡ any (isOutside (observationsAt shots)) (requestedIn wanted)) ⌝ }
 {
     let n = shots.n;
     let m = wanted.n;

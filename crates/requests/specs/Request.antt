@@ -30,5 +30,5 @@ withCoefficient o p = withPriors o (record { «muzzle_velocity_fps» = o .measur
 abbrev pub withDistance : Opening → Requested → Opening
 withDistance o d = record { measured = o .measured; requested = o .requested ++ (d ∷ []) }
 
-abbrev pub requestedAt : Float → Option Float → Requested
-requestedAt range sigma = record { range = range; sigma = sigma }
+abbrev pub requestedWith : Float → Option Float → Requested
+requestedWith range sigma = record { range = range; sigma = sigma }

@@ -12,7 +12,7 @@ ghost use Rattle.opening.specs.Opening.{wantedAt};
 ghost use Rattle.definition.specs.Session.{Opened};
 ghost use Rattle.editing.specs.Meaning.{seen};
 ghost use Rattle.definition.specs.Meaning.{numberOf};
-ghost use Rattle.requests.specs.Request.{emptyRequest, withShot, withDistance, withSpeed, withCoefficient, normal, requestedAt};
+ghost use Rattle.requests.specs.Request.{emptyRequest, withShot, withDistance, withSpeed, withCoefficient, normal, requestedWith};
 ghost use Rattle.requests.specs.Kept.{Keeps, openingIn};
 
 // The request so far. Of each list the first 65 are kept: with more than 64 the opening is refused whatever they are.
@@ -139,7 +139,7 @@ pub fn opened(r: Request) -> Answer
 
 // A sigma that is not given goes in as 0, with its flag down.
 pub fn with_wanted(r: Request, range: f64, sigma: Number) -> Request
-    ensures { λ q. ⌜ ((o : Opening) → Keeps r o → Keeps q (withDistance o (requestedAt range (numberOf sigma)))) ⌝ }
+    ensures { λ q. ⌜ ((o : Opening) → Keeps r o → Keeps q (withDistance o (requestedWith range (numberOf sigma)))) ⌝ }
 {
     match sigma {
         Number::Absent => with_distance(r, range, 0.0, false),

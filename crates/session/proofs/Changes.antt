@@ -9,7 +9,7 @@ use lib.ListN.{length}
 use Rattle.definition.specs.Whole.{placed, edited, editedRows, renewed}
 use Rattle.definition.specs.declared.Row.{Row}
 use Rattle.fitting.specs.Meaning.{fitOf}
-use Rattle.lists.specs.Lists.{requestedOf}
+use Rattle.lists.specs.Lists.{requestedIn}
 use Rattle.lists.specs.Changing.{editOf, sizeAfter, roomy, rowsFrom}
 use Rattle.lists.specs.declared.Change.{Change}
 use Rattle.lists.specs.declared.Wanted.{Wanted}
@@ -21,7 +21,7 @@ use Rattle.definition.specs.Session.{State, asking, standing, over as ended, ei
 use Rattle.report.specs.Reading.{reportIn}
 use Rattle.phases.specs.Phases.{finishedOf}
 use Rattle.phases.specs.declared.Phase.the-variants.{Ended}
-use Rattle.session.specs.Meaning.{measuredOf, baselineOf, heldOf, withinOf, state, standsIn}
+use Rattle.session.specs.Meaning.{measuredOf, baselineIn, heldOf, withinOf, state, standsIn}
 use Rattle.session.specs.Changing.{fittedIn, changedFrom, Changed}
 use Rattle.session.specs.declared.Body.{Body}
 use Rattle.session.specs.declared.Session.{Session}
@@ -60,7 +60,7 @@ module _ (s : Session) (x : Change) (row : Row) where
     few : s .body .wanted .n ≤ 64
     few = wanted-within (s .body) within
 
-    counted : length (requestedOf (s .body .wanted)) ≡ n
+    counted : length (requestedIn (s .body .wanted)) ≡ n
     counted = count .requested few
 
     abbrev Fits : Session → Bool → Type 0
@@ -92,9 +92,9 @@ module _ (s : Session) (x : Change) (row : Row) where
 
     module _ (w : Wanted) (t : StencilRows) (p : T (placed (editOf x) n)) (f : T (roomy (editOf x) n))
         (list : s .body .wanted .n ≤ 64 → T (placed (editOf x) (s .body .wanted .n)) → T (roomy (editOf x) (s .body .wanted .n))
-        → (requestedOf w ≡ edited (editOf x) (requestedOf (s .body .wanted))) × (w .n ≡ sizeAfter (editOf x) (s .body .wanted .n)))
+        → (requestedIn w ≡ edited (editOf x) (requestedIn (s .body .wanted))) × (w .n ≡ sizeAfter (editOf x) (s .body .wanted .n)))
         (rows : n ≤ 64 → T (placed (editOf x) n) → T (roomy (editOf x) n) → rowsAt (sizeAfter (editOf x) n) t ≡ editedRows (editOf x) (rowsFrom row) (rowsAt n (s .body .rows))) where
-      new-list : (requestedOf w ≡ edited (editOf x) (requestedOf (s .body .wanted))) × (w .n ≡ sizeAfter (editOf x) (s .body .wanted .n))
+      new-list : (requestedIn w ≡ edited (editOf x) (requestedIn (s .body .wanted))) × (w .n ≡ sizeAfter (editOf x) (s .body .wanted .n))
       new-list = let g = fits-places p f in list (g .0) (g .1) (g .2)
 
       next-within : withinOf (withList (s .body) w t) ≡ true
@@ -119,7 +119,7 @@ module _ (s : Session) (x : Change) (row : Row) where
         predicted = heldOf (s .body) .predicted;
         requested = new-list .0 i;
         bandRows = new-rows i;
-        baseline = baselineOf (s .body);
+        baseline = baselineIn (s .body);
       }
 
       pub is-changed : (r : Session) → r ≡ endedWith (withList (s .body) w t) (s .asked) → Changed s (editOf x) (rowsFrom row) r

@@ -25,7 +25,7 @@ use Rattle.definition.specs.declared.Evaluation.{Evaluation as Evaluated}
 use Rattle.definition.specs.declared.Step.{Step}
 use Rattle.likelihood.proofs.Laws.{chi-square-places, sums-places, entries-drops, drops-length}
 use Rattle.report.specs.Places.{requestedAt}
-use Rattle.lists.specs.Lists.{requestedOf, HasWanted}
+use Rattle.lists.specs.Lists.{requestedIn, HasWanted}
 use Rattle.fitting.specs.declared.Stage.{Stage}
 use Rattle.stencil.specs.Stencil.{rowsAt, rowsNext, fiveRow, laidIf, nominalLaid, mvLaid, bcLaid, laidRows, gapAfter}
 use Rattle.stencil.specs.declared.StencilRows.{StencilRows}
@@ -38,7 +38,7 @@ use Rattle.phases.specs.declared.Plan.{Plan}
 use Rattle.phases.specs.declared.Next.{Next}
 use Rattle.phases.proofs.Taken.{continueAt, pointOf, whichOf, open-state, open-wants, Laid, LaidValue, LaidFive, LaidBands, LaidBaseline, Led, taken}
 use Rattle.lists.proofs.Arrays.{and-both}
-use Rattle.session.specs.Meaning.{measuredOf, baselineOf, heldOf, withinOf, sizesOf, state, seen, declinedBy, countedBy, Before}
+use Rattle.session.specs.Meaning.{measuredOf, baselineIn, heldOf, withinOf, sizesOf, state, seen, declinedBy, countedBy, Before}
 use Rattle.session.specs.declared.Body.{Body}
 use Rattle.session.specs.declared.Session.{Session}
 use Rattle.session.proofs.Laws.{right-lengths, true-is, is-true, false-is, shots-within, wanted-within, state-within, closed, number-taken, count-is}
@@ -48,7 +48,7 @@ use Rattle.session.proofs.Laws.{right-lengths, true-is, is-true, false-
 -- the evaluation from these rows, over the whole arrays
 abbrev evaluationFrom : Body → List Float → List Float → List Float → Evaluated
 evaluationFrom b nominal byMv byBc =
-    likelihood.finishedOf (b .priors) (b .progress .point)
+    likelihood.fromSums (b .priors) (b .progress .point)
     (likelihood.sumsOf (b .progress .point) (observationsOf (take (b .shots .n) (b .shots .ranges)) (b .shots .drops) (b .shots .sigmas)) (zipWith3 likelihood.rowOf nominal byMv byBc))
 
 abbrev chiOf : Body → List Float → Float
@@ -109,7 +109,7 @@ module _ (b : Body) (ds : List Float) (ms : List Bool) (x : Parts) (h : withinOf
 
   abbrev LaidAt : Phase → Type 0
   LaidAt ph =
-      Laid (heldOf b) es (rowsAt (b .shots .n) (rowsWith x)) (rowsAt (b .wanted .n) (rowsWith x)) (take (b .shots .n) (x .predicted)) (baselineOf (bodyWith b x))
+      Laid (heldOf b) es (rowsAt (b .shots .n) (rowsWith x)) (rowsAt (b .wanted .n) (rowsWith x)) (take (b .shots .n) (x .predicted)) (baselineIn (bodyWith b x))
       (x .evaluation) (x .found) (x .sum) (x .gap) (x .requested) ph
 
   -- ---- an objective
@@ -159,7 +159,7 @@ module _ (b : Body) (ds : List Float) (ms : List Bool) (x : Parts) (h : withinOf
   rows-evaluation : x .evaluation ≡ evaluationFrom b (x .nominal) (x .byMv) (x .byBc)
       → likelihood.evaluationOf (measuredOf b) p (rowsAt (b .shots .n) (rowsWith x)) ≡ x .evaluation
   rows-evaluation q =
-      sym (q ∙ ap (likelihood.finishedOf (b .priors) p)
+      sym (q ∙ ap (likelihood.fromSums (b .priors) p)
       (sums-places p (b .shots .ranges) (b .shots .drops) (b .shots .sigmas) (x .nominal) (x .byMv) (x .byBc) (b .shots .n)))
 
   five-laid : (stage : Stage) (k : ℕ) → rightLength (b .shots .n) ds ms ≡ true → Steps b ds ms (planOf (Evaluation stage k) (b .entered)) x → LaidAt (Evaluation stage k)
@@ -204,7 +204,7 @@ module _ (b : Body) (ds : List Float) (ms : List Bool) (x : Parts) (h : withinOf
   judged drops (suc gap) chi e = ap (λ (t : Bool). present (t && finite chi) drops) (eqb·suc-zero gap)
 
   stored-baseline : rightLength (b .shots .n) ds ms ≡ true → Steps b ds ms (planOf Phase.Baseline (b .entered)) x
-      → baselineOf (bodyWith b x) ≡ summary.baselineOf (measuredOf b) (entries es)
+      → baselineIn (bodyWith b x) ≡ summary.baselineOf (measuredOf b) (entries es)
   unfolding summary.baselineOf
   stored-baseline r t =
       let l = right-lengths (b .shots .n) ds ms r in
@@ -301,7 +301,7 @@ module _ (s : Session) (ds : List Float) (ms : List Bool) where
       let a = number-taken (withinOf (s .body) && plan .asks) (rightLength wanted ds ms) n e z in
       let w = and-both (withinOf (s .body)) (plan .asks) (a .0) in
       let h = heldOf (s .body) in
-      let led = taken h (entriesOf ds ms) (rowsAt (s .body .shots .n) (rowsWith x)) (rowsAt (s .body .wanted .n) (rowsWith x)) (take (s .body .shots .n) (x .predicted)) (baselineOf (bodyWith (s .body) x))
+      let led = taken h (entriesOf ds ms) (rowsAt (s .body .shots .n) (rowsWith x)) (rowsAt (s .body .wanted .n) (rowsWith x)) (take (s .body .shots .n) (x .predicted)) (baselineIn (bodyWith (s .body) x))
       (x .evaluation) (x .found) (x .sum) (x .gap) (x .requested) (s .phase) next (laid-at (s .body) ds ms x (w .0) (s .phase) (w .1) (a .1) t) v in
       reply-taken seen s (next .step) (sessionWith s x next asked) ds ms none (pointOf h (s .phase)) (whichOf (s .phase)) (continueAt h (s .phase))
       (state-within s (w .0) ∙ open-state h (s .phase) (s .body .entered) (w .1)) (right-wants ∙ a .1)

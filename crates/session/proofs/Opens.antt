@@ -22,7 +22,7 @@ use Rattle.definition.specs.declared.Distances.the-variants as Distances
 use Rattle.definition.specs.declared.Step.the-variants.{Question, Refused}
 use Rattle.likelihood.proofs.Laws.{zip3-shortest}
 use Rattle.fitting.proofs.Laws.{bind-assoc}
-use Rattle.lists.specs.Lists.{observationsAt, requestedOf}
+use Rattle.lists.specs.Lists.{observationsAt, requestedIn}
 use Rattle.lists.specs.declared.Shots.{Shots}
 use Rattle.lists.specs.declared.Wanted.{Wanted}
 use Rattle.lists.proofs.Arrays.{shots-measured, wanted-requested}
@@ -107,18 +107,18 @@ module _ (entered : Point) (ranges drops sigmas : List Float) (priors : TruingPr
       priors = p .prior i;
     }
 
-    requested-is : requestedOf (b .wanted) ≡ o .requested
-    requested-is = ap requestedOf (p .wanted) ∙ wanted-requested distances future given few-requested (requested-sound (o .requested) (checked-parts o q .1))
+    requested-is : requestedIn (b .wanted) ≡ o .requested
+    requested-is = ap requestedIn (p .wanted) ∙ wanted-requested distances future given few-requested (requested-sound (o .requested) (checked-parts o q .1))
 
-    whole-is : whole.run (measuredOf b) (requestedOf (b .wanted)) ≡ whole.whole o
+    whole-is : whole.run (measuredOf b) (requestedIn (b .wanted)) ≡ whole.whole o
     whole-is = (λ i. whole.run (measured-is i) (requested-is i)) ∙ ap (λ (t : Run (Unit {0})). bind t (λ u. whole.run (o .measured) (o .requested))) (sym q) ∙ checked-run
 
     asks : Opened seen o (Question (entered .mv) (entered .bc) Distances.Shots) (record { body = b; phase = Start; asked = 1 })
     asks = record {
       is = record {
         leads = state-within (record { body = b; phase = Start; asked = 1 }) within ∙ ap (after none) whole-is;
-        says = ap (λ (x : Point). Question (x .mv) (x .bc) Distances.Shots) (sym (p .point)) ∙ first-head (measuredOf b) (requestedOf (b .wanted)) ∙ ap head whole-is;
-        counts = first-count (measuredOf b) (requestedOf (b .wanted)) ∙ ap (counted none 0) whole-is;
+        says = ap (λ (x : Point). Question (x .mv) (x .bc) Distances.Shots) (sym (p .point)) ∙ first-head (measuredOf b) (requestedIn (b .wanted)) ∙ ap head whole-is;
+        counts = first-count (measuredOf b) (requestedIn (b .wanted)) ∙ ap (counted none 0) whole-is;
         sized = sizes-for;
       };
     }

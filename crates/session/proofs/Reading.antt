@@ -11,7 +11,7 @@ use Rattle.definition.specs.Meaning.{approximationSays, convergenceOf}
 use Rattle.definition.specs.Summary.{Report, Approximation, isOutside, reportOf}
 use Rattle.definition.specs.Summary as summary
 use Rattle.definition.specs.declared.TruingApproximationV1.{TruingApproximationV1}
-use Rattle.lists.specs.Lists.{requestedOf, observationsAt}
+use Rattle.lists.specs.Lists.{requestedIn, observationsAt}
 use Rattle.lists.proofs.Arrays.{and-both}
 use Rattle.report.specs.Places.{nth, resultSays, bandAtSays}
 use Rattle.report.specs.Report as head
@@ -73,7 +73,7 @@ module _ (s : Session) where
 module _ (b : Body) (h : UncertaintyTruingReportV1) (n m : ℕ) (baseline : Baseline) (outside : Bool)
     (w : withinOf b ≡ true) (shows : head.Shows h n m (b .progress) (b .priors) baseline outside)
     (results : ResultsCount (b .shots) (b .predicted) (b .baseline) n) (bands : BandsCount (b .wanted) (b .rows) m)
-    (is-outside : b .shots .n ≤ 64 → b .wanted .n ≤ 64 → outside ≡ any (isOutside (observationsAt (b .shots))) (requestedOf (b .wanted)))
+    (is-outside : b .shots .n ≤ 64 → b .wanted .n ≤ 64 → outside ≡ any (isOutside (observationsAt (b .shots))) (requestedIn (b .wanted)))
     (is-baseline : baselineSays baseline (resultsAt (b .shots) (b .baseline)) ≡ baselineAt (b .shots) (b .entered) (b .baseline) (b .«has_baseline»)) where
   parts : PartsOf (finishedOf (heldOf b)) n m (b .progress) (b .priors) baseline (resultsAt (b .shots) (b .baseline)) outside
   parts = record {

@@ -15,7 +15,7 @@ use Rattle.definition.specs.declared.Point.{Point}
 use Rattle.definition.specs.declared.TruingPriorsV1.{TruingPriorsV1}
 use Rattle.definition.specs.declared.Step.{Step}
 use Rattle.definition.specs.declared.Step.the-variants.{Question, Report, Refused}
-use Rattle.lists.specs.Lists.{observationsAt, requestedOf, shotsFrom, wantedFrom}
+use Rattle.lists.specs.Lists.{observationsAt, requestedIn, shotsFrom, wantedFrom}
 use Rattle.stencil.specs.Stencil.{rowsAt}
 use Rattle.stencil.specs.declared.StencilRows.{StencilRows}
 use Rattle.phases.specs.Phases.{Held, stateAt, planOf}
@@ -28,8 +28,8 @@ abbrev pub measuredOf : Body → Measured
 measuredOf b = record { entered = b .entered; observations = observationsAt (b .shots); priors = b .priors }
 
 -- the baseline that the drops at the entered point make, where there is one
-abbrev pub baselineOf : Body → Option Baseline
-baselineOf b = let m = measuredOf b in let drops = take (b .shots .n) (b .baseline) in
+abbrev pub baselineIn : Body → Option Baseline
+baselineIn b = let m = measuredOf b in let drops = take (b .shots .n) (b .baseline) in
     cond (b .«has_baseline»)
     (some (record { entered = m .entered; chiSquare = chiSquareOf (m .observations) drops; observations = resultsOf (m .observations) drops }))
     none
@@ -37,12 +37,12 @@ baselineOf b = let m = measuredOf b in let drops = take (b .shots .n) (b .baseli
 abbrev pub heldOf : Body → Held
 heldOf b = record {
   measured = measuredOf b;
-  requested = requestedOf (b .wanted);
+  requested = requestedIn (b .wanted);
   progress = b .progress;
   rows = rowsAt (b .shots .n) (b .rows);
   bandRows = rowsAt (b .wanted .n) (b .rows);
   predicted = take (b .shots .n) (b .predicted);
-  baseline = baselineOf b;
+  baseline = baselineIn b;
 }
 
 -- the lists are within their places

@@ -21,7 +21,7 @@ ghost use lib.Dec.{leb, eqb};
 ghost use lib.ListN.{take};
 ghost use Rattle.numeric.specs.Numeric.{zero64, finite};
 ghost use Rattle.definition.specs.Lists.{zipWith3};
-ghost use Rattle.definition.specs.Likelihood.{chiSquareOf, withPriorsOf, finishedOf, sumsOf};
+ghost use Rattle.definition.specs.Likelihood.{chiSquareOf, withPriorsOf, fromSums, sumsOf};
 ghost use Rattle.definition.specs.Likelihood.{rowOf as rowAt};
 ghost use Rattle.definition.specs.Meaning.{observationsOf};
 ghost use Rattle.definition.specs.Session.{moreOf, rightLength, Declines, Opened, Replied, PointRefused};
@@ -267,7 +267,7 @@ fn evaluation_if<'a>(
     by_mv: &'a [f64; 64],
     by_bc: &'a [f64; 64],
 ) -> Evaluation
-    ensures { λ r. ⌜ r ≡ cond here (finishedOf priors p (sumsOf p (observationsOf (take n (now (ranges .entry))) (now (drops .entry)) (now (sigmas .entry))) (zipWith3 rowAt (now (predicted .entry)) (now («by_mv» .entry)) (now («by_bc» .entry))))) old ⌝ }
+    ensures { λ r. ⌜ r ≡ cond here (fromSums priors p (sumsOf p (observationsOf (take n (now (ranges .entry))) (now (drops .entry)) (now (sigmas .entry))) (zipWith3 rowAt (now (predicted .entry)) (now («by_mv» .entry)) (now («by_bc» .entry))))) old ⌝ }
 {
     if here {
         let first = slices::first_places(ranges, n);

@@ -7,9 +7,9 @@ use Rattle.numeric.specs.Numeric.{finite, absOf, maxOf}
 use Rattle.definition.specs.Fit.{gradientNormOf, flatOf, evaluated, iterate, fitMap}
 use Rattle.definition.specs.Likelihood.{chiSquareOf, withPriorOf, withPriorsOf, valued, objective, mvStepOf, bcStepOf, mvPlusAt, mvMinusAt, bcPlusAt}
 use Rattle.definition.specs.Likelihood.{bcMinusAt, bcMinus, bcPlus, mvMinus, mvPlus, truingJacobianRows, complete, accumulateOf, sumsOf}
-use Rattle.definition.specs.Likelihood.{withPriorGradientOf, finishedOf, evaluate}
+use Rattle.definition.specs.Likelihood.{withPriorGradientOf, fromSums, evaluate}
 use Rattle.definition.specs.Whole.{withinOf, positiveOf, soundObservationOf, soundPriorOf, soundRequestedOf, checkedPoint, checkedCount, checkedMeasured}
-use Rattle.definition.specs.Whole.{checkedRequested, bandRows, baseline, concluded, banded, fitted, run, whole, asked, edit}
+use Rattle.definition.specs.Whole.{checkedRequested, bandRows, baseline, concluded, banded, fitted, run, whole, editQuestions, edit}
 use Rattle.definition.specs.Session.{moreOf}
 use Rattle.numerals.specs.Numbers.{digitOf, glyphOf, doubleOf, doubleText, countOf, countText}
 use Rattle.words.specs.Words.{bytes}
@@ -29,11 +29,11 @@ doubles = 0
 
 fits : ℕ
 unfolding chiSquareOf withPriorOf withPriorsOf valued objective mvStepOf bcStepOf mvPlusAt mvMinusAt bcPlusAt bcMinusAt bcMinus bcPlus mvMinus mvPlus
-    truingJacobianRows complete accumulateOf sumsOf withPriorGradientOf finishedOf evaluate gradientNormOf flatOf evaluated iterate fitMap
+    truingJacobianRows complete accumulateOf sumsOf withPriorGradientOf fromSums evaluate gradientNormOf flatOf evaluated iterate fitMap
 fits = 0
 
 runs : ℕ
-unfolding bandRows baseline concluded banded fitted asked edit withinOf positiveOf soundObservationOf soundPriorOf soundRequestedOf checkedPoint
+unfolding bandRows baseline concluded banded fitted editQuestions edit withinOf positiveOf soundObservationOf soundPriorOf soundRequestedOf checkedPoint
     checkedCount checkedMeasured checkedRequested run whole
 runs = 0
 
@@ -42,15 +42,15 @@ abbrev page : List (List ℕ) → List ℕ
 page [] = []
 page (l ∷ ls) = l ++ (10 ∷ page ls)
 
-asks-first : outputOf (page (bytes "(asked)" ∷ [])) ≡ page (bytes "(asked 0)" ∷ [])
+asks-first : outputOf (page (bytes "(editQuestions)" ∷ [])) ≡ page (bytes "(editQuestions 0)" ∷ [])
 unfolding lines doubles fits runs
 asks-first = refl
 
-none-of-the-forms : outputOf (page (bytes "(refused)" ∷ bytes "(asked )" ∷ [])) ≡ page (bytes "(declined 8 0)" ∷ bytes "(malformed 2)" ∷ [])
+none-of-the-forms : outputOf (page (bytes "(refused)" ∷ bytes "(editQuestions )" ∷ [])) ≡ page (bytes "(declined 8 0)" ∷ bytes "(malformed 2)" ∷ [])
 unfolding lines doubles fits runs
 none-of-the-forms = refl
 
-unended-line : outputOf (page (bytes "(take-out 1)" ∷ []) ++ bytes "(asked)") ≡ page (bytes "(declined 14 0)" ∷ bytes "(malformed 2)" ∷ [])
+unended-line : outputOf (page (bytes "(take-out 1)" ∷ []) ++ bytes "(editQuestions)") ≡ page (bytes "(declined 14 0)" ∷ bytes "(malformed 2)" ∷ [])
 unfolding lines doubles fits runs
 unended-line = refl
 

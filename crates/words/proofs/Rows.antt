@@ -11,7 +11,7 @@ use lib.ListN.{length, getD, take, drop, set, replicate, length-append, length-r
 use lib.ListN.{List·getD-eq-default}
 use lib.Seq.{getD-append-add, drop-cons, take-suc, take-length, length-take-le, set-at}
 use Rattle.words.specs.Words.{same, words, wordAt, placeIn, placeOf}
-use Rattle.words.specs.Rows.{rowOf, tableOf, low}
+use Rattle.words.specs.Rows.{padded, tableOf, low}
 use Rattle.words.specs.Rule.{clean, fit}
 use Rattle.words.proofs.Rule.{both-l, both-r, all-fit}
 
@@ -20,16 +20,16 @@ use Rattle.words.proofs.Rule.{both-l, both-r, all-fit}
 fit-length : (w : List ℕ) → fit w ≡ true → length w ≤ 32
 fit-length w e = leb-true (length w) 32 (both-l (leb (length w) 32) (clean w) e)
 
-row-length : (w : List ℕ) → length w ≤ 32 → length (rowOf w) ≡ 32
+row-length : (w : List ℕ) → length w ≤ 32 → length (padded w) ≡ 32
 row-length w h = rw (length-append w (replicate (32 - length w) 32), length-replicate {A = ℕ} (32 - length w) 32) (omega arith)
 
-row-in : (w : List ℕ) (i : ℕ) → i < length w → getD (rowOf w) i 0 ≡ getD w i 0
+row-in : (w : List ℕ) (i : ℕ) → i < length w → getD (padded w) i 0 ≡ getD w i 0
 row-in w i h = List·getD-append w (replicate (32 - length w) 32) 0 i h
 
-row-out : (w : List ℕ) (i : ℕ) → length w ≤ i → i < 32 → getD (rowOf w) i 0 ≡ 32
+row-out : (w : List ℕ) (i : ℕ) → length w ≤ i → i < 32 → getD (padded w) i 0 ≡ 32
 row-out w i g h =
     let e : length w + (i - length w) ≡ i = omega arith in
-    ap (λ (n : ℕ). getD (rowOf w) n 0) (sym e) ∙ getD-append-add w (replicate (32 - length w) 32) (i - length w) 0
+    ap (λ (n : ℕ). getD (padded w) n 0) (sym e) ∙ getD-append-add w (replicate (32 - length w) 32) (i - length w) 0
     ∙ getD-replicate (32 - length w) (i - length w) 32 0 (omega arith)
 
 clean-at : (w : List ℕ) (i : ℕ) → clean w ≡ true → i < length w → getD w i 0 ≡ 32 → ⊥
@@ -41,17 +41,17 @@ clean-at (c ∷ w) (suc i) e h = clean-at w i (both-r (not (eqb c 32)) (clean w)
 
 -- a byte of the table is a byte of a row
 table-at : (ws : List (List ℕ)) → ((j : ℕ) → length (getD ws j []) ≤ 32) → (k i : ℕ) → k < length ws → i < 32
-    → getD (tableOf ws) (k * 32 + i) 0 ≡ getD (rowOf (getD ws k [])) i 0
+    → getD (tableOf ws) (k * 32 + i) 0 ≡ getD (padded (getD ws k [])) i 0
 table-at [] short k i g h = absurd (not-suc-le-zero g)
 table-at (w ∷ ws) short zero i g h =
     let e : zero * 32 + i ≡ i = omega arith in
-    ap (λ (n : ℕ). getD (rowOf w ++ tableOf ws) n 0) e ∙ List·getD-append (rowOf w) (tableOf ws) 0 i (omega (arith, row-length w (short 0)))
+    ap (λ (n : ℕ). getD (padded w ++ tableOf ws) n 0) e ∙ List·getD-append (padded w) (tableOf ws) 0 i (omega (arith, row-length w (short 0)))
 table-at (w ∷ ws) short (suc k) i g h =
-    let e : suc k * 32 + i ≡ length (rowOf w) + (k * 32 + i) = omega (arith, row-length w (short 0)) in
-    ap (λ (n : ℕ). getD (rowOf w ++ tableOf ws) n 0) e ∙ getD-append-add (rowOf w) (tableOf ws) (k * 32 + i) 0
+    let e : suc k * 32 + i ≡ length (padded w) + (k * 32 + i) = omega (arith, row-length w (short 0)) in
+    ap (λ (n : ℕ). getD (padded w ++ tableOf ws) n 0) e ∙ getD-append-add (padded w) (tableOf ws) (k * 32 + i) 0
     ∙ table-at ws (λ j. short (suc j)) k i (le-of-suc-le-suc g) h
 
-pub at-row : (k i : ℕ) → k < length words → i < 32 → getD (tableOf words) (k * 32 + i) 0 ≡ getD (rowOf (wordAt k)) i 0
+pub at-row : (k i : ℕ) → k < length words → i < 32 → getD (tableOf words) (k * 32 + i) 0 ≡ getD (padded (wordAt k)) i 0
 unfolding wordAt
 at-row k i g h = table-at words (λ j. fit-length (wordAt j) (all-fit j)) k i g h
 
@@ -59,8 +59,8 @@ none-past : (k : ℕ) → length words ≤ k → wordAt k ≡ []
 unfolding wordAt
 none-past k g = List·getD-eq-default words [] {n = k} g
 
-pub past-row : (k i : ℕ) → length words ≤ k → i < 32 → 32 ≡ getD (rowOf (wordAt k)) i 0
-past-row k i g h = sym (ap (λ (w : List ℕ). getD (rowOf w) i 0) (none-past k g) ∙ row-out [] i (omega arith) h)
+pub past-row : (k i : ℕ) → length words ≤ k → i < 32 → 32 ≡ getD (padded (wordAt k)) i 0
+past-row k i g h = sym (ap (λ (w : List ℕ). getD (padded w) i 0) (none-past k g) ∙ row-out [] i (omega arith) h)
 
 -- ---- the comparison
 
@@ -83,7 +83,7 @@ row-same (c ∷ s) (d ∷ w) n e =
       by true = refl
       by false = refl
 
-pub is-row : (s : List ℕ) (k : ℕ) → rowIs s (rowOf (wordAt k)) ≡ same s (wordAt k)
+pub is-row : (s : List ℕ) (k : ℕ) → rowIs s (padded (wordAt k)) ≡ same s (wordAt k)
 is-row s k = row-same s (wordAt k) (32 - length (wordAt k)) (both-r (leb (length (wordAt k)) 32) (clean (wordAt k)) (all-fit k))
 
 module _ (s r : List ℕ) (i b : ℕ) (g : i < length s) (h : i < length r) (f : b ≡ getD r i 0) where
@@ -113,13 +113,13 @@ fill-next w i b g h e =
 
 module _ (k i : ℕ) (h : i < 32) where
   -- no blank is reached yet
-  pub goes-on : (getD (rowOf (wordAt k)) i 0 ≡ 32 → ⊥) → i < length (wordAt k)
+  pub goes-on : (getD (padded (wordAt k)) i 0 ≡ 32 → ⊥) → i < length (wordAt k)
   goes-on f = by (ltb i (length (wordAt k))) refl where
     by : (v : Bool) → ltb i (length (wordAt k)) ≡ v → i < length (wordAt k)
     by true e = ltb-true i (length (wordAt k)) e
     by false e = absurd (f (row-out (wordAt k) i (ltb-false i (length (wordAt k)) e) h))
 
-  pub ends-there : i ≤ length (wordAt k) → getD (rowOf (wordAt k)) i 0 ≡ 32 → i ≡ length (wordAt k)
+  pub ends-there : i ≤ length (wordAt k) → getD (padded (wordAt k)) i 0 ≡ 32 → i ≡ length (wordAt k)
   ends-there g f = by (ltb i (length (wordAt k))) refl where
     by : (v : Bool) → ltb i (length (wordAt k)) ≡ v → i ≡ length (wordAt k)
     by true e =
@@ -127,16 +127,16 @@ module _ (k i : ℕ) (h : i < 32) where
         absurd (clean-at (wordAt k) i (both-r (leb (length (wordAt k)) 32) (clean (wordAt k)) (all-fit k)) l (sym (row-in (wordAt k) i l) ∙ f))
     by false e = omega (arith, ltb-false i (length (wordAt k)) e)
 
-  pub one-more : (b : ℕ) → i < length (wordAt k) → b ≡ getD (rowOf (wordAt k)) i 0 → set (filled (wordAt k) i) i b ≡ filled (wordAt k) (suc i)
+  pub one-more : (b : ℕ) → i < length (wordAt k) → b ≡ getD (padded (wordAt k)) i 0 → set (filled (wordAt k) i) i b ≡ filled (wordAt k) (suc i)
   one-more b g e = fill-next (wordAt k) i b g h (e ∙ row-in (wordAt k) i g)
 
 pub word-short : (k : ℕ) → length (wordAt k) ≤ 32
 word-short k = fit-length (wordAt k) (all-fit k)
 
-pub row-32 : (k : ℕ) → length (rowOf (wordAt k)) ≡ 32
+pub row-32 : (k : ℕ) → length (padded (wordAt k)) ≡ 32
 row-32 k = row-length (wordAt k) (word-short k)
 
-pub filled-whole : (k i : ℕ) → i ≡ length (wordAt k) → filled (wordAt k) i ≡ rowOf (wordAt k)
+pub filled-whole : (k i : ℕ) → i ≡ length (wordAt k) → filled (wordAt k) i ≡ padded (wordAt k)
 filled-whole k i e = rw (e, take-length (wordAt k))
 
 -- ---- the search

@@ -6,13 +6,13 @@ use lib.Dec.{ltb}
 use lib.ListN.{length, replicate}
 
 -- a word in 32 bytes, blanks behind it
-abbrev pub rowOf : List ℕ → List ℕ
-rowOf w = w ++ replicate (32 - length w) 32
+abbrev pub padded : List ℕ → List ℕ
+padded w = w ++ replicate (32 - length w) 32
 
 -- the rows one after another
 abbrev pub tableOf : List (List ℕ) → List ℕ
 tableOf [] = []
-tableOf (w ∷ ws) = rowOf w ++ tableOf ws
+tableOf (w ∷ ws) = padded w ++ tableOf ws
 
 -- the first byte is before the letters, as a number's mostly is: no word begins so
 abbrev pub low : List ℕ → Bool

@@ -3,7 +3,7 @@ ghost use mathlib.Core.Path.{_≡_};
 ghost use Prim.Native.Nat.{_<_};
 ghost use lib.ListN.{length, getD};
 ghost use Rattle.words.specs.Words.{same, words, wordAt, placeOf};
-ghost use Rattle.words.specs.Rows.{rowOf, tableOf, low};
+ghost use Rattle.words.specs.Rows.{padded, tableOf, low};
 
 // The number of words, which is the place of what is none of them.
 pub const COUNT: usize = 42;
@@ -153,7 +153,7 @@ fn table() -> [u8; 1344]
 // The i-th byte of the k-th row; past the table there are blanks.
 fn byte(t: &[u8; 1344], k: usize, i: usize) -> u8
     requires { ⌜ (i < 32) × (now t ≡ tableOf words) ⌝ }
-    ensures { λ r. ⌜ r ≡ getD (rowOf (wordAt k)) i 0 ⌝ }
+    ensures { λ r. ⌜ r ≡ getD (padded (wordAt k)) i 0 ⌝ }
 {
     if k >= COUNT {
         return b' ';
@@ -214,7 +214,7 @@ pub fn find(s: &[u8]) -> usize
 
 // The word at a place, of no bytes past the table.
 pub fn word(k: usize) -> WordText
-    ensures { λ r. ⌜ (r .bytes ≡ rowOf (wordAt k)) × (r .len ≡ length (wordAt k)) ⌝ }
+    ensures { λ r. ⌜ (r .bytes ≡ padded (wordAt k)) × (r .len ≡ length (wordAt k)) ⌝ }
 {
     let t = table();
     let mut out = [b' '; 32];

@@ -9,8 +9,8 @@ use Rattle.editing.proofs.Calls.{none-edited, not-placed, faulty-exchan
 use Rattle.editing.proofs.exchange.Statement.{statement}
 use Rattle.editing.proofs.exchange.Tie as tie
 
-standing-requires : tie.Need-standing-requires
-standing-requires c κs = search needs
+standing-fit-requires : tie.Need-standing-fit-requires
+standing-fit-requires c κs = search needs
 
 enum-told : tie.Need-enum-told
 enum-told c = search needs
@@ -35,9 +35,9 @@ returns c =
     let at-if1 = c .before in
     let at-is-placed = at-if1 .before in
     let at-p = at-is-placed .before .before .before in
-    let at-standing = at-p .before .before in
-    let start = at-standing .before .before in
-    not-placed (start .args .s) (at-standing .standing .result) (at-standing .standing .ensures) _ _ (at-p .p .given .1)
+    let at-standing-fit = at-p .before .before in
+    let start = at-standing-fit .before .before in
+    not-placed (start .args .s) (at-standing-fit .standing-fit .result) (at-standing-fit .standing-fit .ensures) _ _ (at-p .p .given .1)
     (exchange (start .args .place) (requestedOf (start .args .range) (start .args .sigma))) _
     (failed _ _ (at-is-placed .is-placed .ensures) (at-if1 .if1 .taken)) (c .declined2 .ensures)
 
@@ -54,9 +54,9 @@ returns-2 c =
     let at-if1 = at-is-sound-requested .before in
     let at-is-placed = at-if1 .before in
     let at-p = at-is-placed .before .before .before in
-    let at-standing = at-p .before .before in
-    let start = at-standing .before .before in
-    faulty-exchange (start .args .s) (at-standing .standing .result) (at-standing .standing .ensures) _ _ (at-p .p .given .1) (start .args .place)
+    let at-standing-fit = at-p .before .before in
+    let start = at-standing-fit .before .before in
+    faulty-exchange (start .args .s) (at-standing-fit .standing-fit .result) (at-standing-fit .standing-fit .ensures) _ _ (at-p .p .given .1) (start .args .place)
     (requestedOf (start .args .range) (start .args .sigma)) _
     (sym (at-is-placed .is-placed .ensures) ∙ not-false _ (at-if1 .if1 .left))
     (failed _ _ (at-is-sound-requested .is-sound-requested .ensures) (at-if2 .if2 .taken)) (c .closed-with .ensures)
@@ -67,9 +67,9 @@ begin-requires c κs = search needs
 returns-3 : tie.Need-returns-3
 returns-3 c =
     let at-enum-told = c .before in
-    let at-standing = at-enum-told .before .before in
-    let start = at-standing .before .before in
-    none-edited (start .args .s) (at-standing .standing .result) (at-standing .standing .ensures)
+    let at-standing-fit = at-enum-told .before .before in
+    let start = at-standing-fit .before .before in
+    none-edited (start .args .s) (at-standing-fit .standing-fit .result) (at-standing-fit .standing-fit .ensures)
     (exchange (start .args .place) (requestedOf (start .args .range) (start .args .sigma))) _ (at-enum-told .enum-told .given .1)
     (c .declined .ensures)
 
@@ -81,9 +81,9 @@ returns-4 c =
     let at-is-placed = at-if1 .before in
     let at-stored-sigma = at-is-placed .before in
     let at-p = at-stored-sigma .before .before in
-    let at-standing = at-p .before .before in
-    let start = at-standing .before .before in
-    begins-exchange (start .args .s) (at-standing .standing .result) (at-standing .standing .ensures) _ _ (at-p .p .given .1) (start .args .place)
+    let at-standing-fit = at-p .before .before in
+    let start = at-standing-fit .before .before in
+    begins-exchange (start .args .s) (at-standing-fit .standing-fit .result) (at-standing-fit .standing-fit .ensures) _ _ (at-p .p .given .1) (start .args .place)
     (start .args .range) (start .args .sigma) (at-stored-sigma .stored-sigma .result) _ (at-stored-sigma .stored-sigma .ensures)
     (sym (at-is-placed .is-placed .ensures) ∙ not-false _ (at-if1 .if1 .left))
     (sym (at-is-sound-requested .is-sound-requested .ensures) ∙ not-false _ (at-if2 .if2 .left)) (c .begin .ensures)
@@ -92,7 +92,7 @@ pub exchange-spec : {M : Type 1} → statement M
 exchange-spec =
     tie.close
     (tie.spec
-    standing-requires
+    standing-fit-requires
     enum-told
     declined-requires
     enum-known-p

@@ -9,8 +9,8 @@ use Rattle.editing.proofs.Calls.{none-edited, not-placed, no-room, faul
 use Rattle.editing.proofs.put_in.Statement.{statement}
 use Rattle.editing.proofs.put_in.Tie as tie
 
-standing-requires : tie.Need-standing-requires
-standing-requires c κs = search needs
+standing-fit-requires : tie.Need-standing-fit-requires
+standing-fit-requires c κs = search needs
 
 enum-told : tie.Need-enum-told
 enum-told c = search needs
@@ -35,9 +35,9 @@ returns c =
     let at-if1 = c .before in
     let at-is-placed = at-if1 .before in
     let at-p = at-is-placed .before .before .before in
-    let at-standing = at-p .before .before in
-    let start = at-standing .before .before in
-    not-placed (start .args .s) (at-standing .standing .result) (at-standing .standing .ensures) _ _ (at-p .p .given .1)
+    let at-standing-fit = at-p .before .before in
+    let start = at-standing-fit .before .before in
+    not-placed (start .args .s) (at-standing-fit .standing-fit .result) (at-standing-fit .standing-fit .ensures) _ _ (at-p .p .given .1)
     (putIn (start .args .place) (requestedOf (start .args .range) (start .args .sigma))) _
     (failed _ _ (at-is-placed .is-placed .ensures) (at-if1 .if1 .taken)) (c .declined2 .ensures)
 
@@ -50,9 +50,9 @@ returns-2 c =
     let at-if1 = at-if2 .before in
     let at-is-placed = at-if1 .before in
     let at-p = at-is-placed .before .before .before in
-    let at-standing = at-p .before .before in
-    let start = at-standing .before .before in
-    no-room (start .args .s) (at-standing .standing .result) (at-standing .standing .ensures) _ _ (at-p .p .given .1) (start .args .place)
+    let at-standing-fit = at-p .before .before in
+    let start = at-standing-fit .before .before in
+    no-room (start .args .s) (at-standing-fit .standing-fit .result) (at-standing-fit .standing-fit .ensures) _ _ (at-p .p .given .1) (start .args .place)
     (requestedOf (start .args .range) (start .args .sigma)) _
     (sym (at-is-placed .is-placed .ensures) ∙ not-false _ (at-if1 .if1 .left)) (at-if2 .if2 .taken) (c .closed-with .ensures)
 
@@ -70,9 +70,9 @@ returns-3 c =
     let at-if1 = at-if2 .before in
     let at-is-placed = at-if1 .before in
     let at-p = at-is-placed .before .before .before in
-    let at-standing = at-p .before .before in
-    let start = at-standing .before .before in
-    faulty-put (start .args .s) (at-standing .standing .result) (at-standing .standing .ensures) _ _ (at-p .p .given .1) (start .args .place)
+    let at-standing-fit = at-p .before .before in
+    let start = at-standing-fit .before .before in
+    faulty-put (start .args .s) (at-standing-fit .standing-fit .result) (at-standing-fit .standing-fit .ensures) _ _ (at-p .p .given .1) (start .args .place)
     (requestedOf (start .args .range) (start .args .sigma)) _
     (sym (at-is-placed .is-placed .ensures) ∙ not-false _ (at-if1 .if1 .left)) (at-if2 .if2 .left)
     (failed _ _ (at-is-sound-requested .is-sound-requested .ensures) (at-if3 .if3 .taken)) (c .closed-with2 .ensures)
@@ -83,9 +83,9 @@ begin-requires c κs = search needs
 returns-4 : tie.Need-returns-4
 returns-4 c =
     let at-enum-told = c .before in
-    let at-standing = at-enum-told .before .before in
-    let start = at-standing .before .before in
-    none-edited (start .args .s) (at-standing .standing .result) (at-standing .standing .ensures)
+    let at-standing-fit = at-enum-told .before .before in
+    let start = at-standing-fit .before .before in
+    none-edited (start .args .s) (at-standing-fit .standing-fit .result) (at-standing-fit .standing-fit .ensures)
     (putIn (start .args .place) (requestedOf (start .args .range) (start .args .sigma))) _ (at-enum-told .enum-told .given .1)
     (c .declined .ensures)
 
@@ -98,9 +98,9 @@ returns-5 c =
     let at-is-placed = at-if1 .before in
     let at-stored-sigma = at-is-placed .before in
     let at-p = at-stored-sigma .before .before in
-    let at-standing = at-p .before .before in
-    let start = at-standing .before .before in
-    begins-put (start .args .s) (at-standing .standing .result) (at-standing .standing .ensures) _ _ (at-p .p .given .1) (start .args .place)
+    let at-standing-fit = at-p .before .before in
+    let start = at-standing-fit .before .before in
+    begins-put (start .args .s) (at-standing-fit .standing-fit .result) (at-standing-fit .standing-fit .ensures) _ _ (at-p .p .given .1) (start .args .place)
     (start .args .range) (start .args .sigma) (at-stored-sigma .stored-sigma .result) _ (at-stored-sigma .stored-sigma .ensures)
     (sym (at-is-placed .is-placed .ensures) ∙ not-false _ (at-if1 .if1 .left)) (at-if2 .if2 .left)
     (sym (at-is-sound-requested .is-sound-requested .ensures) ∙ not-false _ (at-if3 .if3 .left)) (c .begin .ensures)
@@ -109,7 +109,7 @@ pub put-in-spec : {M : Type 1} → statement M
 put-in-spec =
     tie.close
     (tie.spec
-    standing-requires
+    standing-fit-requires
     enum-told
     declined-requires
     enum-known-p

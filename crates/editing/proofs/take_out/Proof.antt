@@ -8,8 +8,8 @@ use Rattle.editing.proofs.Calls.{none-edited, not-placed, taken-out}
 use Rattle.editing.proofs.take_out.Statement.{statement}
 use Rattle.editing.proofs.take_out.Tie as tie
 
-standing-requires : tie.Need-standing-requires
-standing-requires c κs = search needs
+standing-fit-requires : tie.Need-standing-fit-requires
+standing-fit-requires c κs = search needs
 
 enum-told : tie.Need-enum-told
 enum-told c = search needs
@@ -31,9 +31,9 @@ returns c =
     let at-if1 = c .before in
     let at-is-placed = at-if1 .before in
     let at--p = at-is-placed .before .before in
-    let at-standing = at--p .before .before in
-    let start = at-standing .before .before in
-    not-placed (start .args .s) (at-standing .standing .result) (at-standing .standing .ensures) _ _ (at--p .-p .given .1)
+    let at-standing-fit = at--p .before .before in
+    let start = at-standing-fit .before .before in
+    not-placed (start .args .s) (at-standing-fit .standing-fit .result) (at-standing-fit .standing-fit .ensures) _ _ (at--p .-p .given .1)
     (takeOut (start .args .place)) _ (failed _ _ (at-is-placed .is-placed .ensures) (at-if1 .if1 .taken)) (c .declined2 .ensures)
 
 changed-requires : tie.Need-changed-requires
@@ -45,9 +45,9 @@ closed-with-requires c κs = search needs
 returns-2 : tie.Need-returns-2
 returns-2 c =
     let at-enum-told = c .before in
-    let at-standing = at-enum-told .before .before in
-    let start = at-standing .before .before in
-    none-edited (start .args .s) (at-standing .standing .result) (at-standing .standing .ensures) (takeOut (start .args .place)) _
+    let at-standing-fit = at-enum-told .before .before in
+    let start = at-standing-fit .before .before in
+    none-edited (start .args .s) (at-standing-fit .standing-fit .result) (at-standing-fit .standing-fit .ensures) (takeOut (start .args .place)) _
     (at-enum-told .enum-told .given .1) (c .declined .ensures)
 
 returns-3 : tie.Need-returns-3
@@ -56,9 +56,9 @@ returns-3 c =
     let at-if1 = at-changed .before in
     let at-is-placed = at-if1 .before in
     let at--p = at-is-placed .before .before in
-    let at-standing = at--p .before .before in
-    let start = at-standing .before .before in
-    taken-out (start .args .s) (at-standing .standing .result) (at-standing .standing .ensures) _ _ (at--p .-p .given .1) (start .args .place) _
+    let at-standing-fit = at--p .before .before in
+    let start = at-standing-fit .before .before in
+    taken-out (start .args .s) (at-standing-fit .standing-fit .result) (at-standing-fit .standing-fit .ensures) _ _ (at--p .-p .given .1) (start .args .place) _
     (at-changed .changed .result) _ (sym (at-is-placed .is-placed .ensures) ∙ not-false _ (at-if1 .if1 .left)) (at-changed .changed .ensures)
     (c .closed-with .ensures)
 
@@ -66,7 +66,7 @@ pub take-out-spec : {M : Type 1} → statement M
 take-out-spec =
     tie.close
     (tie.spec
-    standing-requires
+    standing-fit-requires
     enum-told
     declined-requires
     enum-known--p

@@ -1,4 +1,4 @@
--- `next_look`: by the limit of evaluations, and by the next turn.
+-- `next_look`: by the limit of evaluations, and by the next step of the poll.
 use mathlib.Core.Path.{sym, ap, _∙_}
 use borrow.Author.Needs.{needs}
 use Rattle.objective_mesh.specs.Meaning.{says}
@@ -23,43 +23,43 @@ returns c =
           ∙ poll-stopped (start .args .g) (at-stopped .stopped .result) m ds (at-if1 .if1 .taken) (at-stopped .stopped .ensures);
     }
 
-next-turn-requires : tie.Need-next-turn-requires
-next-turn-requires c κs = search needs
+next-step-requires : tie.Need-next-step-requires
+next-step-requires c κs = search needs
 
-enum-known-turn : tie.Need-enum-known-turn
-enum-known-turn c = search needs
+enum-known-step : tie.Need-enum-known-step
+enum-known-step c = search needs
 
-enum-known-turn-2 : tie.Need-enum-known-turn-2
-enum-known-turn-2 c = search needs
+enum-known-step-2 : tie.Need-enum-known-step-2
+enum-known-step-2 c = search needs
 
 polled-requires-2 : tie.Need-polled-requires-2
 polled-requires-2 c κs = search needs
 
 returns-2 : tie.Need-returns-2
 returns-2 c =
-    let at-turn = c .before .before .before in
-    let at-next-turn = at-turn .before .before in
-    let at-if1 = at-next-turn .before in
+    let at-step = c .before .before .before in
+    let at-next-step = at-step .before .before in
+    let at-if1 = at-next-step .before in
     let start = at-if1 .before .before .before in
-    let said = sym (ap says (at-turn .turn .given .1)) ∙ at-next-turn .next-turn .ensures in
+    let said = sym (ap says (at-step .step .given .1)) ∙ at-next-step .next-step .ensures in
     record {
-      leads = λ m ds. poll-looks (start .args .g) (at-turn .turn .given .0 .0) (at-turn .turn .given .0 .1 .0) m ds (at-if1 .if1 .left) said;
+      leads = λ m ds. poll-looks (start .args .g) (at-step .step .given .0 .0) (at-step .step .given .0 .1 .0) m ds (at-if1 .if1 .left) said;
     }
 
 returns-3 : tie.Need-returns-3
 returns-3 c =
-    let at-turn2 = c .before .before in
-    let at-next-turn = at-turn2 .before .before in
-    let at-if1 = at-next-turn .before in
+    let at-step2 = c .before .before in
+    let at-next-step = at-step2 .before .before in
+    let at-if1 = at-next-step .before in
     let start = at-if1 .before .before .before in
     record {
       leads = λ m ds.
           c .polled2 .ensures .leads m ds
-          ∙ poll-ended (start .args .g) (at-turn2 .turn2 .given .0 .0) m ds (at-if1 .if1 .left)
-          (sym (ap says (at-turn2 .turn2 .given .1)) ∙ at-next-turn .next-turn .ensures);
+          ∙ poll-ended (start .args .g) (at-step2 .step2 .given .0 .0) m ds (at-if1 .if1 .left)
+          (sym (ap says (at-step2 .step2 .given .1)) ∙ at-next-step .next-step .ensures);
     }
 
 pub next-look-spec : {M : Type 1} → statement M
 next-look-spec =
     tie.close
-    (tie.spec stopped-requires polled-requires returns next-turn-requires enum-known-turn enum-known-turn-2 polled-requires-2 returns-2 returns-3)
+    (tie.spec stopped-requires polled-requires returns next-step-requires enum-known-step enum-known-step-2 polled-requires-2 returns-2 returns-3)

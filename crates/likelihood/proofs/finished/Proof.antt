@@ -1,6 +1,6 @@
 -- `finished` meets its contract, by those of the parts that it calls. Assumes nothing.
 use borrow.Author.Needs.{needs}
-use Rattle.definition.specs.Likelihood.{finishedOf}
+use Rattle.definition.specs.Likelihood.{fromSums}
 use Rattle.likelihood.proofs.finished.Statement.{statement}
 use Rattle.likelihood.proofs.finished.Tie as tie
 
@@ -29,7 +29,7 @@ column-condition-requires : tie.Need-column-condition-requires
 column-condition-requires c κs = search needs
 
 returns : tie.Need-returns
-unfolding finishedOf
+unfolding fromSums
 returns c =
     let c1 = c .before .before .before in
     let c2 = c1 .before .before .before in

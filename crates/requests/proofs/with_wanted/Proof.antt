@@ -1,5 +1,5 @@
 use Rattle.requests.specs.Kept.{Keeps}
-use Rattle.requests.specs.Request.{withDistance, requestedAt}
+use Rattle.requests.specs.Request.{withDistance, requestedWith}
 use Rattle.definition.specs.declared.Number.{Number}
 use Rattle.definition.specs.Meaning.{numberOf}
 use Rattle.definition.specs.Request.{Opening}
@@ -23,13 +23,13 @@ with-distance-requires-2 c κs = search needs
 returns : tie.Need-returns
 returns c =
     let c1 = c .before .before .before in
-    λ o k. subst (λ (s : Number). Keeps (c .with-distance .result) (withDistance o (requestedAt (c1 .args .range) (numberOf s))))
+    λ o k. subst (λ (s : Number). Keeps (c .with-distance .result) (withDistance o (requestedWith (c1 .args .range) (numberOf s))))
     (sym (c .before .enum-told .given .1)) (c .with-distance .ensures o k)
 
 returns-2 : tie.Need-returns-2
 returns-2 c =
     let c1 = c .before .before .before .before in
-    λ o k. subst (λ (s : Number). Keeps (c .with-distance2 .result) (withDistance o (requestedAt (c1 .args .range) (numberOf s))))
+    λ o k. subst (λ (s : Number). Keeps (c .with-distance2 .result) (withDistance o (requestedWith (c1 .args .range) (numberOf s))))
     (sym (c .before .before .sigma .given .1)) (c .with-distance2 .ensures o k)
 
 pub with-wanted-spec : {M : Type 1} → statement M
