@@ -1,5 +1,5 @@
 -- The line protocol between two lines: where a conversation stands, and what a line's form does to it and gets for an answer. It reads beside docs/PROTOCOL.md. What is said
--- to a call on the session, and where it stands then, are `dueTo` and `after` (demands); the texts are those of `texts` and `answers`.
+-- to a call on the session, and where it stands then, are `dueTo` and `after` (demands); the texts are those of `report_text` and `answer_text`.
 use Prim.Native.Nat.{ℕ}
 use mathlib.Core.Bool.{Bool, true, false}
 use mathlib.Core.List.{List, [], _∷_, _++_, map}
