@@ -1,5 +1,6 @@
-/* The truing estimator's functions for C, on x86-64 Linux: `rt staticlib desk` proves them and writes the archive
-   target/staticlib/libdesk.a. Their contracts are in crates/desk/src/lib.rt, in the words of crates/desk/specs/Desk.antt.
+/* The truing estimator's functions for C, on x86-64 Linux: `rt staticlib c_api` proves them and writes the archive
+   target/staticlib/libc_api.a. Their contracts are in crates/c_api/src/lib.rt, in the words of
+   crates/c_api/specs/Desk.antt.
 
    A double in bytes is its 8 bytes in IEEE 754, the lowest first. Any not-a-number pattern is read as the one
    not-a-number; a not-a-number is written as 7ff8000000000000. No address needs an alignment.

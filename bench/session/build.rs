@@ -1,4 +1,4 @@
-//! Writes the estimator's text with document 01's recipes, as compare/estimator/build.rs does (which also checks the text's SHA-256), and with the way in that is
+//! Writes the estimator's text with S8's recipes, as compare/estimator/build.rs does (which also checks the text's SHA-256), and with the way in that is
 //! measured, `src/wrapper.rs`. The driver holds its reports to those of the comparison's estimator.
 use std::{env, fs, path::Path};
 

@@ -1,6 +1,6 @@
 //! Checks the estimator's text and writes the variants that are compiled:
 //! `untouched.rs`, the text as it stands; `recipes.rs`, in which the three
-//! functions without a fixed last bit give way to document 01's recipes; and
+//! functions without a fixed last bit give way to the recipes (S8); and
 //! `unjudged.rs`, the recipes with an objective that gives a sum that is not
 //! finite too.  Each ends with `request.rs` and `wrapper.rs`,
 //! which need the text's private items.

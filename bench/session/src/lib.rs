@@ -1,4 +1,4 @@
-//! The Rust's side of the measurement: the estimator's text with document 01's recipes over a solver, with as little between them as can be, and the request that
+//! The Rust's side of the measurement: the estimator's text with S8's recipes over a solver, with as little between them as can be, and the request that
 //! the program `session_bench` makes too.
 #[path = "../../../compare/estimator/src/atmosphere.rs"]
 mod atmosphere;

@@ -1,4 +1,4 @@
-//! `truing_inverse` against the text's inverse, with document 01's recipe for `hypot`.
+//! `truing_inverse` against the text's inverse, with the recipe (S8) for `hypot`.
 
 use crate::rng::Rng;
 use crate::tally::Tally;

@@ -338,7 +338,7 @@ mod tests {
             let opening = Case::random(crate::rng::mix(seed)).opening;
             let refusal = estimator::opening_refusal(&opening);
             seen[refusal.map_or(0, |r| r.0 as usize)] += 1;
-            // The text goes on where document 01 meets one of its limits.
+            // The text goes on where the scope meets one of its limits (S5).
             match refusal {
                 Some((3, _)) => assert!(opening.shots.len() > 64),
                 Some((6, _)) => assert!(opening.distances.len() > 64),

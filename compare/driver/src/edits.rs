@@ -1,5 +1,5 @@
 //! Lists of calls with edits after a run, checked against fresh runs of the
-//! text: the book of document 01's demand 3, kept here from its words.
+//! text: the book of S3 (docs/SCOPE.md), kept here from its words.
 
 use std::collections::VecDeque;
 

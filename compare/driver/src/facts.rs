@@ -1,4 +1,4 @@
-//! What the papers say of every report, checked on each line; and how often the
+//! What docs/SCOPE.md says of every report, checked on each line; and how often the
 //! rarer ways through the text were taken.
 
 use crate::tally::WARNINGS;

@@ -37,7 +37,7 @@ fn slipped(mut case: Case, number: u64, slip: Slip) -> Case {
     case
 }
 
-/// Document 01's bench figures and the vectors of the close reading, whole runs.
+/// The bench figures (S24) and other vectors worked out by hand, whole runs.
 pub fn named() -> Vec<(&'static str, Case)> {
     let two = [[100.0, 10.0, 1.0], [200.0, 11.0, 1.0]];
     let zero = [[200.0, 0.0, 1.0], [300.0, 0.0, 1.0]];

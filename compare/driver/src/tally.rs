@@ -91,7 +91,7 @@ impl Tally {
             || new(&[self.available, self.no_baseline], &[alone.available, alone.no_baseline])
     }
 
-    /// Prints the counts; says whether every one occurred and the papers' claims hold.
+    /// Prints the counts; says whether every one occurred and the scope's claims hold.
     pub fn print(&self) -> bool {
         println!(
             "{} lines, {} questions (at most {} in a run), {} malformed lines, {} reports ({} without a baseline)",

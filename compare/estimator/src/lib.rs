@@ -1,8 +1,8 @@
 //! The Rust estimator's own text, run question by question.
 //!
-//! `run` is document 01's run: it calls the text's `run_with_model` and gives
-//! its report, or the number and position of its refusal.  `opening_refusal`
-//! is document 01's judgement of an opening.
+//! `run` is the run of docs/SCOPE.md (S20): it calls the text's
+//! `run_with_model` and gives its report, or the number and position of its
+//! refusal.  `opening_refusal` is the scope's judgement of an opening.
 
 mod atmosphere;
 mod print;
@@ -17,14 +17,14 @@ use std::sync::OnceLock;
 pub use print::hex;
 pub use truing::DropUnit;
 
-/// Document 01's upper limit of observations and of requested distances.
+/// The scope's upper limit (S5) of observations and of requested distances.
 pub const LIMIT: usize = 64;
 
 #[derive(Debug, Clone, Copy, PartialEq, Eq)]
 pub enum Variant {
     /// The text as it stands.
     Untouched,
-    /// The text with document 01's recipes.
+    /// The text with the recipes (S8).
     Recipes,
 }
 
@@ -197,8 +197,8 @@ pub(crate) fn entered_fault(speed: f64, coefficient: f64) -> Option<usize> {
     }
 }
 
-/// Document 01's refusals 1 to 7 of an opening.  Each record is judged by the
-/// text's own `validate_request`, the limits and the order by document 01.
+/// Refusals 1 to 7 of an opening.  Each record is judged by the
+/// text's own `validate_request`, the limits and the order by docs/SCOPE.md.
 pub fn opening_refusal(opening: &Opening) -> Option<Refusal> {
     let refusal = judged(opening);
     // The text has no limits; where none is met its verdict must be the same.
@@ -292,7 +292,7 @@ mod tests {
         entries.map(f64::to_bits)
     }
 
-    /// The figures that document 01 wants proved, on the text itself.
+    /// The bench figures that are proved (S24), on the text itself.
     #[test]
     fn proved_figures() {
         let power = |n: i32| 2f64.powi(n);

@@ -1,4 +1,4 @@
-//! A report as document 01 writes it, with each leaf's name kept beside it so
+//! A report as docs/PROTOCOL.md writes it, with each leaf's name kept beside it so
 //! that two reports can be compared field by field.
 
 use crate::Report;

@@ -1,4 +1,4 @@
-//! Document 01's recipes for the functions that have no fixed last bit in Rust.
+//! The recipes of docs/SCOPE.md (S8) for the functions that have no fixed last bit in Rust.
 
 pub(crate) fn hypot(x: f64, y: f64) -> f64 {
     if x.is_infinite() || y.is_infinite() {

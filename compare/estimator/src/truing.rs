@@ -37,7 +37,7 @@ pub struct TruingModelInputsV1 {
 }
 
 impl TruingModelInputsV1 {
-    /// Document 01's range test, in place of the model's own.
+    /// The scope's range test (S6), in place of the model's own.
     pub(crate) fn validate(&self) -> Result<(), String> {
         match crate::entered_fault(self.muzzle_velocity_fps, self.ballistic_coefficient) {
             Some(which) => Err(format!("entered value {which}")),

@@ -154,7 +154,7 @@ fn print_fields(out: &mut crate::print::Printer, name: &'static str, i: Gaussian
     }
 }
 
-// The leaves of document 01's bench figures.
+// The leaves of the bench figures (S24 of docs/SCOPE.md).
 
 pub(crate) fn inverse(a: [f64; 3]) -> Result<[f64; 4], String> {
     match (Symmetric2 { a00: a[0], a01: a[1], a11: a[2] }).inverse_with_condition() {

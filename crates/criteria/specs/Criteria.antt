@@ -1,4 +1,4 @@
--- Document 01's acceptance test and near-bound test, and the bounds of the fit, which other crates cite from here.
+-- The test of acceptance (S15, S16), of nearness to a bound (S17), and the bounds of the fit, which other crates cite from here.
 use mathlib.Core.Bool.{Bool, _||_}
 use lib.Ieee.{Float, binary64, sub, mul, lt, le, ofBits}
 
@@ -20,7 +20,7 @@ bcMax = ofBits binary64 0x4000_0000_0000_0000
 abbrev pub improvementTolerance : Float
 improvementTolerance = ofBits binary64 0x3e45_798e_e230_8c3a
 
--- "material": current − candidate > 1e-8, strictly
+-- S16's "material", S15's "accepted": current − candidate > 1e-8, strictly
 unfoldable pub materialOf : Float → Float → Bool
 materialOf current candidate = lt improvementTolerance (sub binary64 current candidate)
 
@@ -32,7 +32,7 @@ boundTolerance = ofBits binary64 0x3eb0_c6f7_a0b5_ed8d
 unfoldable pub toleranceOf : Float → Float → Float
 toleranceOf lower upper = mul binary64 boundTolerance (sub binary64 upper lower)
 
--- "near a bound": the speed or the coefficient is at most its tolerance above its lower or below its upper bound. A not-a-number is near none.
+-- S17's "near a bound": the speed or the coefficient is at most its tolerance above its lower or below its upper bound. A not-a-number is near none.
 unfoldable pub atBoundOf : Float → Float → Bool
 atBoundOf mv bc =
     le (sub binary64 mv mvMin) (toleranceOf mvMin mvMax) || le (sub binary64 mvMax mv) (toleranceOf mvMin mvMax)

@@ -1,4 +1,4 @@
--- Doubles: each operation rounds once, to binary64. The constants of document 01 by their bits; each is the double nearest to its decimal (specs/Decimals.antt).
+-- Doubles: each operation rounds once, to binary64. The scope's constants by their bits; each is the double nearest to its decimal (specs/Decimals.antt).
 use lib.Ieee.{Float, binary64, add, sub, mul, div, ofBits}
 use Rattle.numeric.specs.Numeric.{half64}
 

@@ -1,5 +1,5 @@
--- The constants and the decimals of document 01 that they are nearest to, each decimal as a fraction. Theorem `nearest-to-decimals`, in proofs/Constants.antt: each
--- constant is the double that its decimal rounds to.
+-- The constants and the decimals of the scope that they are nearest to, each decimal as a fraction. Theorem `nearest-to-decimals`, in proofs/Constants.antt:
+-- each constant is the double that its decimal rounds to.
 use Prim.Native.Nat.{ℕ, _^_}
 use mathlib.Core.Bool.{Bool, true, false, _&&_}
 use mathlib.Core.List.{List, [], _∷_}

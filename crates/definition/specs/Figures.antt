@@ -1,4 +1,4 @@
--- Document 01's bench figures that are to be proved, and some more of single definitions. `Figures` is the table; its one proof, by computation, is
+-- S24's bench figures of single definitions, and some more. `Figures` is the table; its one proof, by computation, is
 -- proofs/Figures.antt. A double is written as the nearest to a fraction. Whole runs are in RunFigures.antt.
 use Prim.Native.Nat.{ℕ, _^_, _-_}
 use mathlib.Core.Bool.{Bool, true, false, not, _&&_}
@@ -101,7 +101,7 @@ sameInverse (inverse s k) nonFinite = false
 sameInverse (inverse s k) rankDeficient = false
 sameInverse (inverse s k) (inverse t l) = s .a00 is t .a00 && (s .a01 is t .a01 && (s .a11 is t .a11 && k is l))
 
--- ---- the bench figures of document 01 that are to be proved, and some more of single definitions
+-- ---- S24's bench figures of single definitions, and some more
 
 pub record Figures : Type 0 where
   -- (4, 0, 1), (1, 1, 1), (1, 0, 2^-39) and (1, 0, 2^-40)

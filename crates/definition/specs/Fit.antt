@@ -1,4 +1,4 @@
--- `fit_map`: damped Gauss-Newton steps from the entered point, then a check of the gradient, then the poll.
+-- S15's `fit_map`: damped Gauss-Newton steps from the entered point, then a check of the gradient, then the poll.
 use Prim.Native.Nat.{ℕ, zero, suc}
 use mathlib.Core.Bool.{Bool, cond, not, _||_}
 use lib.Ieee.{Float, neg, lt, le}
@@ -23,7 +23,7 @@ dampedOf damping a = a ⊕ damping ⊗ maxOf a leastDiagonal
 abbrev pub damped : Float → Symmetric2 → Symmetric2
 damped damping s = record { a00 = dampedOf damping (s .a00); a01 = s .a01; a11 = dampedOf damping (s .a11) }
 
--- "the determinant is unfit": not finite, or its size below 1e-24
+-- S15's "the determinant is unfit": not finite, or its size below 1e-24
 unfoldable pub unfitOf : Float → Bool
 unfitOf d = not (finite d) || lt (absOf d) leastDeterminant
 
@@ -55,7 +55,7 @@ raised damping = damping ⊗ four
 abbrev pub raisedFar : Float → Float
 raisedFar damping = damping ⊗ ten
 
--- "flat": the larger absolute gradient entry is at most 1e-6. A not-a-number loses to a number.
+-- S15's "flat": the larger absolute gradient entry is at most 1e-6. A not-a-number loses to a number.
 unfoldable pub gradientNormOf : Evaluation → Float
 gradientNormOf e = maxOf (absOf (e .«gradient_mv»)) (absOf (e .«gradient_bc»))
 

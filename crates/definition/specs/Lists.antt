@@ -1,4 +1,4 @@
--- Lists as document 01 speaks of them: positions and places are counted from 1.
+-- Lists as the scope speaks of them: positions and places are counted from 1.
 use Prim.Native.Nat.{ℕ, zero, suc, _-_, min}
 use mathlib.Core.Bool.{Bool, false, cond, _||_}
 use mathlib.Core.List.{List, [], _∷_}

@@ -1,4 +1,4 @@
--- Whole runs, told by how many questions they put and what they end in: document 01's, and more that tell the definition from near misses of it. The tables
+-- Whole runs, told by how many questions they put and what they end in: S24's, and more that tell the definition from near misses of it. The tables
 -- `RunFigures`, `OpeningFigures`, `EditFigures`, `ReportFigure`, `PollFigures`, `LimitFigures` and `CutFigure` have one proof each, by computation, in proofs/Figures.antt.
 use Prim.Native.Nat.{ℕ, zero, suc, _^_, _-_, _*_}
 use mathlib.Core.Bool.{Bool, true, false, cond, _&&_, _||_, Bool·beq}

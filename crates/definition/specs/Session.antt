@@ -25,7 +25,7 @@ listOf shots = Shots
 listOf distances = Requested
 listOf (new d) = New
 
--- document 01's answers: a question, a report, or a refusal by its number and position
+-- S4's answers: a question, a report, or a refusal by its number and position
 abbrev pub head : Run Finished → Step
 head (done c) = Step.Report
 head (refuse n i) = Step.Refused n i

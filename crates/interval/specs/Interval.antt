@@ -1,4 +1,4 @@
--- `GaussianIntervalV1::from_variance`, from document 01.
+-- S13: `GaussianIntervalV1::from_variance`.
 use mathlib.Core.Bool.{cond, not}
 use mathlib.Core.Option.{Option, none, some}
 use lib.Ieee.{Float, binary64, add, sub, mul, lt, ofBits}

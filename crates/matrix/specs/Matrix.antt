@@ -1,4 +1,4 @@
--- `Symmetric2`, from document 01: a symmetric matrix of two rows, by its entries a00, a01, a11.
+-- S12's `Symmetric2`: a symmetric matrix of two rows, by its entries a00, a01, a11.
 use mathlib.Core.Bool.{Bool, false, cond, not, _&&_, _||_}
 use lib.Ieee.{Float, inf, binary64, add, sub, mul, div, neg, le, ofBits}
 use Rattle.root.specs.Root.{rootOf}
@@ -19,14 +19,14 @@ sumOf s t = record { a00 = add binary64 (s .a00) (t .a00); a01 = add binary64 (s
 unfoldable pub entriesFinite : Symmetric2 → Bool
 entriesFinite s = finite (s .a00) && finite (s .a01) && finite (s .a11)
 
--- "largest eigenvalue": half of the trace and the discriminant together
+-- S12's "largest eigenvalue": half of the trace and the discriminant together
 unfoldable pub largestOf : Symmetric2 → Float
 largestOf s =
     let trace = add binary64 (s .a00) (s .a11) in
     let discriminant = hypotOf (sub binary64 (s .a00) (s .a11)) (mul binary64 two64 (s .a01)) in
     mul binary64 half64 (add binary64 trace discriminant)
 
--- an inverse and its condition number, or document 01's refusals NonFinite and RankDeficient
+-- an inverse and its condition number, or S12's refusals NonFinite and RankDeficient
 pub data Inverted : Type 0 where
   inverse : (m : Symmetric2) (condition : Float) → Inverted
   nonFinite rankDeficient : Inverted
@@ -45,7 +45,7 @@ inverseEntries s d = record { a00 = div binary64 (s .a11) d; a01 = div binary64 
 abbrev pub tolerance : Float
 tolerance = ofBits binary64 0x3d71_9799_812d_ea11
 
--- "Inverse refuses in order": each line is one of document 01's tests, and the last what is given where all are passed.
+-- S12's "the inverse refuses in order": each line is one of its tests, and the last what is given where all are passed.
 -- The smallest eigenvalue is the determinant over the largest.
 unfoldable pub inverseOf : Symmetric2 → Inverted
 inverseOf s =

@@ -1,4 +1,4 @@
--- Document 01's leaves on doubles, by IEEE 754's cases: `nan` (not-a-number), `inf s` and the numbers `fin s m e`, negative where s is true.
+-- The leaves on doubles (S8's hypot, S10), by IEEE 754's cases: `nan` (not-a-number), `inf s` and the numbers `fin s m e`, negative where s is true.
 use mathlib.Core.Bool.{Bool, true, false, cond, _&&_}
 use lib.Ieee.{Float, nan, inf, fin, binary64, add, mul, div, lt, eq, isNan, ofBits}
 use Rattle.root.specs.Root.{rootOf}
@@ -29,25 +29,25 @@ absOf nan = nan
 absOf (inf s) = inf false
 absOf (fin s m e) = fin false m e
 
--- "max": prefers a number to a not-a-number. Where neither is below the other, also for zeros of unlike sign, it is the first: Rust leaves that open, and
--- this is our decision.
+-- S10's "max": prefers a number to a not-a-number. Where neither is below the other, also for zeros of unlike sign, it is the first: Rust leaves that open,
+-- and this is our decision.
 unfoldable pub maxOf : Float → Float → Float
 maxOf x y = cond (isNan x) y (cond (isNan y) x (cond (lt x y) y x))
 
--- "clamp": unchanged whatever compares neither below its lower nor above its upper end, so −0 stays −0, and a not-a-number, which compares with nothing,
--- stays too. The lower end is tested first: where the ends are the wrong way round, what is below the lower gives the lower, and else what is above the upper
--- gives the upper.
+-- S10's "clamp": unchanged whatever compares neither below its lower nor above its upper end, so −0 stays −0, and a not-a-number, which compares with
+-- nothing, stays too. The lower end is tested first: where the ends are the wrong way round, what is below the lower gives the lower, and else what is above
+-- the upper gives the upper.
 unfoldable pub clampOf : Float → Float → Float → Float
 clampOf x lower upper = cond (lt x lower) lower (cond (lt upper x) upper x)
 
--- "big · root(1 + q · q), q = small/big"
+-- S8's "big · root(1 + q · q), q = small/big"
 unfoldable pub scaledOf : Float → Float → Float
 scaledOf big small =
     let q = div binary64 small big in
     mul binary64 big (rootOf (add binary64 one64 (mul binary64 q q)))
 
--- "hypot": infinity if either part is infinite; else not-a-number if either is; else 0 if both are zero; else by the larger and the smaller absolute value.
--- Of two equal ones q is 1.
+-- S8's "hypot": infinity if either part is infinite; else not-a-number if either is; else 0 if both are zero; else by the larger and the smaller absolute
+-- value. Of two equal ones q is 1.
 unfoldable pub hypotOf : Float → Float → Float
 hypotOf (inf s) y = inf false
 hypotOf nan (inf t) = inf false

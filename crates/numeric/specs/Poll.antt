@@ -1,11 +1,11 @@
--- The poll direction, by document 01's recipe.
+-- The poll direction, by S8's recipe.
 use mathlib.Core.Bool.{Bool, cond, not, _||_}
 use lib.Ieee.{Float, binary64, add, sub, mul, div, neg, lt, eq}
 use Rattle.root.specs.Root.{rootOf}
 use Rattle.numeric.specs.Numeric.{zero64, one64, two64, finite, hypotOf}
 use Rattle.numeric.specs.declared.Direction.{Direction}
 
--- "if x, y or h is not finite or h is 0"
+-- S8's "if x, y or h is not finite or h is 0"
 abbrev pub noDirection : Float → Float → Float → Bool
 noDirection x y h = not (finite x) || not (finite y) || not (finite h) || eq h zero64
 

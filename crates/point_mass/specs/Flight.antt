@@ -92,7 +92,7 @@ inUnit unit yards (run.drop y) =
 abbrev pub muzzle : Float → Flight
 muzzle mv = record { x = zero64; y = zero64; vx = mv; vy = zero64 }
 
--- "pointwise": the entry at a distance in yards is a function of the point and that distance alone. At most 4,096 steps; 3 feet to the yard.
+-- S3's "pointwise": the entry at a distance in yards is a function of the point and that distance alone. At most 4,096 steps; 3 feet to the yard.
 unfoldable pub entryAt : Point → DropUnit → Float → run.Entry
 entryAt p unit yards =
     cond (isSane p && lt zero64 yards)

@@ -1,4 +1,4 @@
--- Examples of document 01 and of the line protocol. Theorem `examples`, in proofs/Examples.antt, by computation.
+-- Examples of a report's parts and of the other lines (S22, docs/PROTOCOL.md). Theorem `examples`, in proofs/Examples.antt, by computation.
 use mathlib.Core.Path.{_≡_}
 use mathlib.Core.List.{[], _∷_}
 use lib.Ieee.{binary64, ofBits}

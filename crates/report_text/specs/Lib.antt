@@ -1,4 +1,4 @@
--- Definitions that the contracts of the crate `texts` cite, written from document 01, "A report written out", and from the line protocol.
+-- Definitions that the contracts of the crate `report_text` cite, written from S22 and the line protocol (docs/PROTOCOL.md).
 pub mod Writing
 pub mod Texts
 pub mod Pieces

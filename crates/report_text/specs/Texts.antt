@@ -1,4 +1,4 @@
--- A report written out, from document 01, and the other answers of the line protocol. A text is the list of its bytes; none of these has its line feed.
+-- S22's report written out, and the other answers of the line protocol (docs/PROTOCOL.md). A text is the list of its bytes; none of these has its line feed.
 use Prim.Native.Nat.{ℕ}
 use mathlib.Core.Bool.{Bool, true, false}
 use mathlib.Core.List.{List, [], _∷_, _++_, map}
