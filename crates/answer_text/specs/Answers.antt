@@ -35,7 +35,8 @@ line text = text ++ (10 ∷ [])
 abbrev pub lineText : Answer → Text
 lineText a = line (answerText a)
 
--- The line of every answer, whatever its step and its session, fits the 32,768 bytes that the program has for it, so that nothing of it is left out. Theorem `answer-fits`.
+-- The line of every answer, whatever its step and its session, fits the 32,768 bytes that the program has for it, so that nothing of it is left out. Theorem
+-- `answer-fits`.
 abbrev pub AnswerFits : Type 0
 AnswerFits = (a : Answer) → length (lineText a) ≤ 32768
 

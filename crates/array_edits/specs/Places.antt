@@ -1,4 +1,5 @@
--- An array of which the first n places are in use, with one entry put in or taken out: the changed list laid over it, so that the places behind that list stay as they were.
+-- An array of which the first n places are in use, with one entry put in or taken out: the changed list laid over it, so that the places behind that list stay
+-- as they were.
 use Prim.Native.Nat.{ℕ}
 use mathlib.Core.Bool.{cond, _&&_}
 use mathlib.Core.List.{List}

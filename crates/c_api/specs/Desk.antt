@@ -73,7 +73,11 @@ priorOf true mean sigma = Normal (record { mean = mean; sigma = sigma })
 -- bit 0 says that the speed's prior is given and bit 1 the coefficient's; no other bit counts
 unfoldable pub priorsOf : ℕ → Float → Float → Float → Float → TruingPriorsV1
 priorsOf bits speedMean speedSigma coefficientMean coefficientSigma =
-    record { «muzzle_velocity_fps» = priorOf (eqb (bits % 2) 1) speedMean speedSigma; «ballistic_coefficient» = priorOf (eqb (bits / 2 % 2) 1) coefficientMean coefficientSigma }
+    record {
+      «muzzle_velocity_fps» = priorOf (eqb (bits % 2) 1) speedMean speedSigma;
+      «ballistic_coefficient» = priorOf
+          (eqb (bits / 2 % 2) 1) coefficientMean coefficientSigma;
+    }
 
 -- of n records and n replies
 unfoldable pub sumOf : TruingPriorsV1 → Point → ℕ → List ℕ → List ℕ → Float

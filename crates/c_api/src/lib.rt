@@ -12,7 +12,8 @@ ghost use lib.ListN.{length, replicate};
 ghost use Rattle.root.specs.Root.{rootOf};
 ghost use Rattle.numeric.specs.Numeric.{zero64};
 ghost use Rattle.slices.specs.Slices.{laidOver};
-ghost use Rattle.c_api.specs.Desk.{littleEndian, doubleAt, columnOf, doubleBytes, putAt, priorOf, priorsOf, sumOf, sumOutcome, inverseBytes, inverseOutcome};
+ghost use Rattle.c_api.specs.Desk.{littleEndian, doubleAt, columnOf, doubleBytes, putAt, priorOf, priorsOf, sumOf, sumOutcome, inverseBytes};
+ghost use Rattle.c_api.specs.Desk.{inverseOutcome};
 
 // The observations that an objective sum holds at most, and the bytes of one.
 const MAX_OBSERVATIONS: usize = 64;

@@ -19,7 +19,8 @@ use Rattle.definition.specs.declared.Point.{Point}
 use Rattle.definition.proofs.Questions.{asks-now}
 use Rattle.definition.specs.Session.{sizesFor, wants, rightLength}
 use Rattle.editing.specs.declared.Session.{Session}
-use Rattle.demands.specs.Calls.{Call, reply, resume, Editing, At, restBy, restAt, Taking, declines, takes, takingReply, stance, afterTaken, unlessDeclined, afterCall}
+use Rattle.demands.specs.Calls.{Call, reply, resume, Editing, At, restBy, restAt, Taking, declines, takes, takingReply, stance, afterTaken, unlessDeclined}
+use Rattle.demands.specs.Calls.{afterCall}
 use Rattle.demands.specs.Calls.{due, dueTo}
 use Rattle.demands.specs.Standing.{IsNew, News}
 use Rattle.definition.specs.Run.{Entry, dropOr0, isMissing}
@@ -91,7 +92,8 @@ wrong-length n es h =
     ap (λ (b : Bool). b && eqb (length (map isMissing es)) n) (ne-eqb (length (map dropOr0 es)) n (λ q. omega (arith, drops-long es)))
 
 module _ (o : Opening) (t : At) where
-  same-declined : (x y : Call) (n : ℕ) → stance o t x ≡ declines n → stance o t y ≡ declines n → (afterCall o t x ≡ afterCall o t y) × (dueTo o t x ≡ dueTo o t y)
+  same-declined : (x y : Call) (n : ℕ) → stance o t x ≡ declines n → stance o t y ≡ declines n
+      → (afterCall o t x ≡ afterCall o t y) × (dueTo o t x ≡ dueTo o t y)
   same-declined x y n e f = (
     ap (λ (z : Taking). unlessDeclined z t (afterTaken o t x)) e ∙ sym (ap (λ (z : Taking). unlessDeclined z t (afterTaken o t y)) f),
     ap (λ (z : Taking). due z (restAt o (afterCall o t x))) e ∙ sym (ap (λ (z : Taking). due z (restAt o (afterCall o t y))) f),

@@ -145,7 +145,8 @@ fills {out} {afterCall} {n} {text} h w =
 
 -- ---- a reply's entries, in two lists and in one
 
-same-entries : (ds : List Float) (ms : List Bool) → arrays.entriesOf (map run.dropOr0 (arrays.entriesOf ds ms)) (map run.isMissing (arrays.entriesOf ds ms)) ≡ arrays.entriesOf ds ms
+same-entries : (ds : List Float) (ms : List Bool) → arrays.entriesOf (map run.dropOr0 (arrays.entriesOf ds ms))
+    (map run.isMissing (arrays.entriesOf ds ms)) ≡ arrays.entriesOf ds ms
 same-entries [] ms = refl
 same-entries (d ∷ ds) [] = refl
 same-entries (d ∷ ds) (true ∷ ms) = ap (λ (l : List run.Entry). run.missing ∷ l) (same-entries ds ms)
@@ -181,7 +182,8 @@ pub replied-same :
     (s : Session) (ds : List Float) (ms : List Bool) (a : Given) → length ms ≡ length ds → Replied s ds ms a → Meets (replyOf (arrays.entriesOf ds ms)) s a
 replied-same s ds ms a e d =
     record {
-      is = replied-by (state s) s ds (map run.dropOr0 (arrays.entriesOf ds ms)) ms (map run.isMissing (arrays.entriesOf ds ms)) a (same-drops ds ms e) (same-flags ds ms e)
+      is = replied-by (state s) s ds (map run.dropOr0 (arrays.entriesOf ds ms)) ms (map run.isMissing (arrays.entriesOf ds ms)) a (same-drops ds ms e)
+          (same-flags ds ms e)
           (same-entries ds ms) (d .is);
     }
 
@@ -195,8 +197,10 @@ by-form l f g e q u r d = subst (λ (x : Form). Responds r (answerTo u x)) (sym 
 pub answered-fills :
     {out afterCall : Text} {n : ℕ} (h : Held) (u : Conversation) → Tracks h u → (r : Response) (a : Answer) → responseSays r ≡ a → length out ≡ 32768
     → Writes out 0 afterCall n (responseText (h .session) r) → Fills out afterCall n (answerText u a)
-answered-fills {out} {afterCall} {n} h u k r a e l w = subst (Fills out afterCall n) (text-so h u k r a e) (fills (omega (arith, response-fits (h .session) r)) w)
+answered-fills {out} {afterCall} {n} h u k r a e l w = subst (Fills out afterCall n) (text-so h u k r a e)
+    (fills (omega (arith, response-fits (h .session) r)) w)
 
 pub malformed-fills :
-    {out afterCall : Text} {n : ℕ} (m : ℕ) → length out ≡ 32768 → Writes out 0 afterCall n (line (malformedText m)) → Fills out afterCall n (line (malformedText m))
+    {out afterCall : Text} {n : ℕ} (m : ℕ) → length out ≡ 32768 → Writes out 0 afterCall n (line (malformedText m))
+    → Fills out afterCall n (line (malformedText m))
 malformed-fills {out} {afterCall} {n} m l w = fills (omega (arith, malformed-length m, length-append (malformedText m) (10 ∷ []))) w

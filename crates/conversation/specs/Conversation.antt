@@ -1,4 +1,5 @@
--- The line protocol between two lines: where a conversation stands, and what a line's form does to it and gets for an answer. It reads beside docs/PROTOCOL.md. What is said
+-- The line protocol between two lines: where a conversation stands, and what a line's form does to it and gets for an answer. It reads beside docs/PROTOCOL.md.
+-- What is said
 -- to a call on the session, and where it stands then, are `dueTo` and `afterCall` (demands); the texts are those of `report_text` and `answer_text`.
 use Prim.Native.Nat.{ℕ}
 use mathlib.Core.Bool.{Bool, true, false}
@@ -13,7 +14,8 @@ use Rattle.definition.specs.Whole.{whole}
 use Rattle.definition.specs.Session.{head, moreOf}
 use Rattle.definition.specs.declared.Step.{Step}
 use Rattle.demands.specs.Calls.{Call, reply, refusePoint, change, At, first, finishedAt, reportBy, afterCall, dueTo}
-use Rattle.lines.specs.Lines.{Form, malformed, entered, shot, priorSpeed, priorCoefficient, distance, openPlain, drops, refused, putIn, takeOut, exchange, asked}
+use Rattle.lines.specs.Lines.{Form, malformed, entered, shot, priorSpeed, priorCoefficient, distance, openPlain, drops, refused, putIn, takeOut, exchange}
+use Rattle.lines.specs.Lines.{asked}
 use Rattle.report_text.specs.Writing.{Text}
 use Rattle.report_text.specs.Texts.{askedText, malformedText}
 use Rattle.answer_text.specs.Answers.{saidText, line}
@@ -31,7 +33,8 @@ pub record Conversation : Type 0 where
   pub opening : Opening
   pub at : At
 
--- Before the first (open plain) the session is that of an empty request, which is declined: there is none, and every call gets what it gets after a declined opening.
+-- Before the first (open plain) the session is that of an empty request, which is declined: there is none, and every call gets what it gets after a declined
+-- opening.
 abbrev pub noRequest : Opening
 noRequest = emptyRequest (record { mv = zero64; bc = zero64 })
 
@@ -101,8 +104,11 @@ opens t = (record { lines = t .lines; section = Closed; request = t .request; op
 
 -- a call on the session
 abbrev pub calls : Conversation → Call → Answered
-calls t x =
-    (record { lines = t .lines; section = t .section; request = t .request; opening = t .opening; at = afterCall (t .opening) (t .at) x }, says (dueTo (t .opening) (t .at) x))
+calls t x = (
+  record { lines = t .lines; section = t .section; request = t .request; opening = t .opening; at = afterCall (t .opening) (t .at) x },
+  says
+      (dueTo (t .opening) (t .at) x),
+)
 
 -- the entries as drops and flags; a missing entry's drop is not looked at
 abbrev pub replyOf : List Entry → Call
@@ -112,7 +118,8 @@ replyOf es = reply (map dropOr0 es) (map isMissing es)
 unfoldable pub answerTo : Conversation → Form → Answered
 answerTo t malformed = malformedLine t
 answerTo t (entered mv bc) = collected t Shots (emptyRequest (record { mv = mv; bc = bc }))
-answerTo t (shot range drop sigma) = inPlace (takesShot (t .section)) t (collected t Shots (withShot (t .request) (record { range = range; drop = drop; sigma = sigma })))
+answerTo t (shot range drop sigma) = inPlace (takesShot (t .section)) t
+    (collected t Shots (withShot (t .request) (record { range = range; drop = drop; sigma = sigma })))
 answerTo t (priorSpeed mean sigma) = inPlace (takesShot (t .section)) t (collected t Priors (withSpeed (t .request) (normal mean sigma)))
 answerTo t (priorCoefficient mean sigma) = inPlace (takesCoefficient (t .section)) t (collected t Distances (withCoefficient (t .request) (normal mean sigma)))
 answerTo t (distance range sigma) = inPlace (takesDistance (t .section)) t (collected t Distances (withDistance (t .request) (requestedWith range sigma)))

@@ -9,7 +9,8 @@ use lib.Ieee.{Float}
 use Rattle.definition.specs.Run.{Run, ask, Reply, refused, entries, Which}
 use Rattle.definition.specs.Summary.{Finished}
 use Rattle.definition.specs.Whole.{Edit, placed, edit}
-use Rattle.definition.specs.Session.{State, asking, standing, over, wants, entriesOf, rightLength, either, Seen, Declines, goesOn, entriesTaken, refusalTaken, editTaken, Replied, PointRefused, Edited}
+use Rattle.definition.specs.Session.{State, asking, standing, over, wants, entriesOf, rightLength, either, Seen, Declines, goesOn, entriesTaken}
+use Rattle.definition.specs.Session.{refusalTaken, editTaken, Replied, PointRefused, Edited}
 use Rattle.definition.specs.declared.Point.{Point}
 use Rattle.definition.specs.declared.Step.{Step}
 
@@ -44,7 +45,8 @@ module _ {S : Type 0} (seen : S → Seen) (s : S) (said : Step) (r : S) where
       pub reply-wrong : rightLength (wants (seen s .sizes) w) ds ms ≡ false → Declines seen said r s 9 → Replied seen s ds ms said r
       reply-wrong l d = by-length false l d
 
-      pub reply-taken : rightLength (wants (seen s .sizes) w) ds ms ≡ true → goesOn seen s kept (k (entries (entriesOf ds ms))) said r → Replied seen s ds ms said r
+      pub reply-taken : rightLength (wants (seen s .sizes) w) ds ms ≡ true → goesOn seen s kept (k (entries (entriesOf ds ms))) said r
+          → Replied seen s ds ms said r
       reply-taken l d = by-length true l d
 
   pub refusal-closed : (x : State) → seen s .state ≡ x → Closed x → Declines seen said r s 8 → PointRefused seen s said r
@@ -63,7 +65,8 @@ module _ {S : Type 0} (seen : S → Seen) (s : S) (said : Step) (r : S) where
     edit-unfinished (asking kept t) q u d = record { is = subst (λ (y : State). editTaken seen y s e said r) (sym q) d }
 
     module _ (c : Finished) (q : seen s .state ≡ standing c) where
-      by-place : (b : Bool) → placed e (length (c .requested)) ≡ b → either b (goesOn seen s (some c) (edit c e) said r) (Declines seen said r s 15) → Edited seen s e said r
+      by-place : (b : Bool) → placed e (length (c .requested)) ≡ b → either b (goesOn seen s (some c) (edit c e) said r) (Declines seen said r s 15)
+          → Edited seen s e said r
       by-place b l d = record {
         is =
             subst (λ (y : State). editTaken seen y s e said r) (sym q)

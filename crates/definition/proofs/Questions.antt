@@ -25,7 +25,8 @@ use Rattle.definition.specs.Fit.{evaluated, iterate, fitMap}
 use Rattle.definition.specs.Summary.{Finished}
 use Rattle.definition.specs.Whole.{withinOf, faultyObservation, soundPriorOf, soundRequestedOf, faultyRequested, checkedPoint, checkedCount}
 use Rattle.definition.specs.Whole.{checkedMeasured, checkedRequested}
-use Rattle.definition.specs.Whole.{bandRows, baseline, concluded, banded, fitted, run, whole, Edit, putIn, takeOut, exchange, unlessMissing, editQuestions, edit}
+use Rattle.definition.specs.Whole.{bandRows, baseline, concluded, banded, fitted, run, whole, Edit, putIn, takeOut, exchange, unlessMissing}
+use Rattle.definition.specs.Whole.{editQuestions, edit}
 use Rattle.definition.specs.declared.Point.{Point}
 use Rattle.definition.specs.declared.Evaluation.{Evaluation}
 

@@ -10,7 +10,9 @@ use Rattle.numeric.specs.Drop.{degreesPerRadian, milsPerUnit, minutesPerDegree,
 use Rattle.matrix.specs.Matrix.{tolerance, correlationTolerance}
 use Rattle.interval.specs.Interval.{level95, factor95}
 use Rattle.criteria.specs.Criteria.{mvMin, mvMax, bcMin, bcMax, improvementTolerance, boundTolerance}
-use Rattle.definition.specs.Constants.{quarter, four, ten, mvScale, bcScale, stepFraction, leastMvStep, leastBcStep, firstDamping, leastDamping, leastDiagonal, leastDeterminant, flatGradient, firstRadius, leastRadius, varianceTolerance, leastSensitivityRatio, largestCondition, priorDominance, epsilon}
+use Rattle.definition.specs.Constants.{quarter, four, ten, mvScale, bcScale, stepFraction, leastMvStep, leastBcStep, firstDamping, leastDamping}
+use Rattle.definition.specs.Constants.{leastDiagonal, leastDeterminant, flatGradient, firstRadius, leastRadius, varianceTolerance, leastSensitivityRatio}
+use Rattle.definition.specs.Constants.{largestCondition, priorDominance, epsilon}
 
 pub record Decimal : Type 0 where
   pub constant : Float

@@ -108,7 +108,8 @@ pub record Figures : Type 0 where
   pub inverse-4 : T (sameInverse (inverseOf (symmetric (number 4) zero64 (number 1))) (inverse (symmetric (ratio 1 4) minusZero (number 1)) (number 4)))
   pub inverse-singular : T (sameInverse (inverseOf (symmetric (number 1) (number 1) (number 1))) rankDeficient)
   pub inverse-39 :
-      T (sameInverse (inverseOf (symmetric (number 1) zero64 (ratio 1 (2 ^ 39)))) (inverse (symmetric (number 1) minusZero (number (2 ^ 39))) (number 549755813888)))
+      T (sameInverse (inverseOf (symmetric (number 1) zero64 (ratio 1 (2 ^ 39))))
+      (inverse (symmetric (number 1) minusZero (number (2 ^ 39))) (number 549755813888)))
   pub inverse-40 : T (sameInverse (inverseOf (symmetric (number 1) zero64 (ratio 1 (2 ^ 40)))) rankDeficient)
   -- from 1 to 1 − 2^-26, to 1 − 2^-27, and from 1e-8 to 0
   pub material-26 : T (materialOf (number 1) (ratio (2 ^ 26 - 1) (2 ^ 26)))
@@ -120,11 +121,13 @@ pub record Figures : Type 0 where
   -- drops 10, 20, sigmas 2, 1, replies 14, 19; then with prior mean 2000, sigma 50 at 2100
   pub sum-5 : T (chiSquareOf tenTwenty (number 14 ∷ number 19 ∷ []) is number 5)
   pub sum-9 :
-      T (objectiveOf (measured (number 2000) (ratio 3 10) tenTwenty (priors (normal (number 2000) (number 50)) Absent)) (point (number 2100) (ratio 3 10)) (number 14 ∷ number 19 ∷ [])
+      T (objectiveOf (measured (number 2000) (ratio 3 10) tenTwenty (priors (normal (number 2000) (number 50)) Absent)) (point (number 2100) (ratio 3 10))
+      (number 14 ∷ number 19 ∷ [])
       is number 9)
   -- one sum: 2 and 2^-52 and 2^-52 is 2, where 2 and a penalty of 2^-51 would be more
   pub sum-in-order :
-      T (objectiveOf (measured (number 2000) (number 1) twoZeros (priors (normal (number 1999) (number (2 ^ 26))) (normal (ratio 1 2) (number (2 ^ 25))))) (point (number 2000) (number 1)) (number 1 ∷ number 1 ∷ [])
+      T (objectiveOf (measured (number 2000) (number 1) twoZeros (priors (normal (number 1999) (number (2 ^ 26))) (normal (ratio 1 2) (number (2 ^ 25)))))
+      (point (number 2000) (number 1)) (number 1 ∷ number 1 ∷ [])
       is number 2)
   -- variances 4, −0 and −1
   pub deviation-2 : T (sameOption _is_ (deviation (interval95 (number 10) (number 4))) (some (number 2)))

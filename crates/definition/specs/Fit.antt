@@ -6,7 +6,8 @@ use Rattle.numeric.specs.Numeric.{half64, finite, absOf, maxOf}
 use Rattle.matrix.specs.Matrix.{determinantOf}
 use Rattle.matrix.specs.declared.Symmetric2.{Symmetric2}
 use Rattle.criteria.specs.Criteria.{materialOf}
-use Rattle.definition.specs.Constants.{_⊕_, _⊖_, _⊗_, _⊘_, four, ten, mvScale, bcScale, firstDamping, leastDamping, leastDiagonal, leastDeterminant, flatGradient}
+use Rattle.definition.specs.Constants.{_⊕_, _⊖_, _⊗_, _⊘_, four, ten, mvScale, bcScale, firstDamping, leastDamping, leastDiagonal, leastDeterminant}
+use Rattle.definition.specs.Constants.{flatGradient}
 use Rattle.definition.specs.Request.{Measured}
 use Rattle.definition.specs.Run.{Run, done, _>>=_, _>>_}
 use Rattle.definition.specs.Likelihood.{objective, evaluate, evaluationOf, Rows}

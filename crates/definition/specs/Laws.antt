@@ -1,6 +1,7 @@
 -- What holds of every run of the definition. The theorems stand in proofs/ under the names that stand here:
 -- Questions.antt (the questions and their number), Polls.antt, Fits.antt, Warnings.antt, Ranges.antt, Presence.antt.
--- That the fit, the evaluation at the fit and the baseline do not see the requested distances needs no theorem: `fitMap`, `evaluate` and `baseline` take no list
+-- That the fit, the evaluation at the fit and the baseline do not see the requested distances needs no theorem: `fitMap`, `evaluate` and `baseline` take no
+-- list
 -- of them (Fit.antt, Likelihood.antt, Whole.antt), and `run` hands `fitMap` the `Measured` alone.
 use Prim.Native.Nat.{ℕ, zero, suc, _+_, _≤_}
 use mathlib.Core.Path.{_≡_}
@@ -18,7 +19,8 @@ use Rattle.criteria.specs.Criteria.{atBoundOf}
 use Rattle.definition.specs.Constants.{firstRadius, leastRadius}
 use Rattle.definition.specs.Request.{Measured, Opening}
 use Rattle.definition.specs.Run.{Run, done, refuse, ask, Reply, Which}
-use Rattle.definition.specs.Mesh.{Convergence, notConverged, scaledGradient, objectiveMesh, Poll, Pass, evaluates, pollStep, seen, poll, firstPass, quarteredOf}
+use Rattle.definition.specs.Mesh.{Convergence, notConverged, scaledGradient, objectiveMesh, Poll, Pass, evaluates, pollStep, seen, poll, firstPass}
+use Rattle.definition.specs.Mesh.{quarteredOf}
 use Rattle.definition.specs.Fit.{found, polled}
 use Rattle.definition.specs.Summary.{interval95, Approximation, available, covarianceOf, correlationOf, approximationOf, Finished, reportOf}
 use Rattle.definition.specs.Whole.{noRows, bandRows, whole, Edit, edit}
@@ -93,7 +95,8 @@ pub record Level (radius : Float) (smaller : ℕ) : Type 0 where
   pub sum : before + smaller ≡ 9
   pub is : radius ≡ radiusAfter before
 
--- Theorem `radius-tested`: every pass of a poll has such a radius, from the first pass on, and so has what a pass without a gain goes on with. There the source's test
+-- Theorem `radius-tested`: every pass of a poll has such a radius, from the first pass on, and so has what a pass without a gain goes on with. There the
+-- source's test
 -- for the last radius, `radius <= 1e-7`, holds exactly where the countdown says that no smaller one is to come.
 pub record RadiusTested : Type 0 where
   pub first : (information : Symmetric2) (centre : Point) (current : Float) → let s = firstPass information centre current in Level (s .radius) (s .smaller)
@@ -109,7 +112,8 @@ module _ {A : Type 0} where
   Every P (refuse c i) = Unit {0}
   Every P (ask p w k) = (r : Reply) → Every P (k r)
 
--- how a fit is verified, and after how many poll evaluations: not at all, only where the poll used up its 1,024; by the gradient, without a poll; by the mesh, at
+-- how a fit is verified, and after how many poll evaluations: not at all, only where the poll used up its 1,024; by the gradient, without a poll; by the mesh,
+-- at
 -- the radius 1e-7
 abbrev pub Shown : Convergence → ℕ → Type 0
 Shown notConverged n = n ≡ 1024

@@ -165,9 +165,11 @@ abbrev pub stoppedAt : ℕ → Pass → Poll
 stoppedAt zero s = searched (s .radius) (s .centre) (s .current) (s .best) (s .evaluations)
 stoppedAt (suc smaller) s = record { point = s .centre; convergence = notConverged; evaluations = s .evaluations }
 
--- The limit of evaluations stops the poll in or after a pass. A gain is kept; without one the last radius still counts as searched, also where the pass was cut.
+-- The limit of evaluations stops the poll in or after a pass. A gain is kept; without one the last radius still counts as searched, also where the pass was
+-- cut.
 unfoldable pub stopped : Pass → Poll
-stopped s = cond (materialOf (s .current) (s .best)) (record { point = s .bestPoint; convergence = notConverged; evaluations = s .evaluations }) (stoppedAt (s .smaller) s)
+stopped s = cond (materialOf (s .current) (s .best)) (record { point = s .bestPoint; convergence = notConverged; evaluations = s .evaluations })
+    (stoppedAt (s .smaller) s)
 
 module _ (m : Measured) where
   abbrev pub onPollStep : (Pass → Run Poll) → PollStep → Run Poll

@@ -1,5 +1,6 @@
 -- Whole runs, told by how many questions they put and what they end in: S24's, and more that tell the definition from near misses of it. The tables
--- `RunFigures`, `OpeningFigures`, `EditFigures`, `ReportFigure`, `PollFigures`, `LimitFigures` and `CutFigure` have one proof each, by computation, in proofs/Figures.antt.
+-- `RunFigures`, `OpeningFigures`, `EditFigures`, `ReportFigure`, `PollFigures`, `LimitFigures` and `CutFigure` have one proof each, by computation, in
+-- proofs/Figures.antt.
 use Prim.Native.Nat.{ℕ, zero, suc, _^_, _-_, _*_}
 use mathlib.Core.Bool.{Bool, true, false, cond, _&&_, _||_, Bool·beq}
 use mathlib.Core.List.{List, [], _∷_}
@@ -24,7 +25,8 @@ use Rattle.definition.specs.declared.TruingApproximationFailureCodeV1.{T
 use Rattle.definition.specs.declared.TruingApproximationFailureCodeV1.the-variants as Failure
 use Rattle.definition.specs.declared.TruingUncertaintyWarningCodeV1.{TruingUncertaintyWarningCodeV1}
 use Rattle.definition.specs.declared.TruingUncertaintyWarningCodeV1.the-variants as Warning
-use Rattle.definition.specs.Figures.{ratio, number, minusZero, symmetric, point, observed, normal, priors, measured, requested, firstTwo, twoZeros, _is_, samePoint, sameOption, sameList}
+use Rattle.definition.specs.Figures.{ratio, number, minusZero, symmetric, point, observed, normal, priors, measured, requested, firstTwo, twoZeros, _is_}
+use Rattle.definition.specs.Figures.{samePoint, sameOption, sameList}
 
 -- an opening without priors
 abbrev pub opening : Float → Float → List Observation → List Requested → Opening
@@ -277,7 +279,13 @@ pub record RunFigures : Type 0 where
   pub slope-not-a-number : T (runs infiniteBeside (bench (number 2000)) (reported 12 (flatAt nominal 1 (some Failure.NonFiniteInformation) weakIllUnavailable)))
   -- three observations, effective count 2: one degree of freedom, warned, reduced value given; two: none given
   pub freedom-1 :
-      T (frees threeOf (entered allThree []) (reported 12 (record { count = some (number 2); degrees = some (number 1); reduced = some (number 4); warnings = lowFreedom })))
+      T (frees threeOf (entered allThree []) (reported 12 (record {
+        count = some (number 2);
+        degrees = some (number 1);
+        reduced = some
+            (number 4);
+        warnings = lowFreedom;
+      })))
   pub freedom-0 :
       T (frees twoOf (entered firstTwo []) (reported 12 (record { count = some (number 2); degrees = some zero64; reduced = none; warnings = lowFreedom })))
   -- a distance puts five questions more, and is warned of only where it is outside, after the others
@@ -287,11 +295,14 @@ pub record RunFigures : Type 0 where
       (reported 17 (flatAt nominal 1 none (Warning.LowEffectiveDegreesOfFreedom ∷ Warning.PredictionOutsideObservedDomain ∷ []))))
   -- a fit that is a not-a-number counts as converged
   pub fit-not-a-number :
-      T (runs overflowing (zeros (number 2000) (ratio 3 10)) (reported 18 (flatAt (point nan nan) 2 (some Failure.RankDeficientInformation) weakIllUnavailable)))
+      T (runs overflowing (zeros (number 2000) (ratio 3 10)) (reported 18
+      (flatAt (point nan nan) 2 (some Failure.RankDeficientInformation) weakIllUnavailable)))
   -- two steps, the second with the lowered damping; then with the first candidate rejected, and so with the raised damping
-  pub two-steps : T (runs linear fine (reported 24 (flatAt (point (ofBits binary64 0x40a3_9fff_ffff_fdaa) (ofBits binary64 0x3fe4_0000_0000_0256)) 3 none lowFreedom)))
+  pub two-steps : T (runs linear fine (reported 24 (flatAt (point (ofBits binary64 0x40a3_9fff_ffff_fdaa)
+      (ofBits binary64 0x3fe4_0000_0000_0256)) 3 none lowFreedom)))
   pub once-rejected :
-      T (runs onceRejected fine (reported 25 (flatAt (point (ofBits binary64 0x40a3_9fff_ffff_da9e) (ofBits binary64 0x3fe4_0000_0000_2562)) 3 none lowFreedom)))
+      T (runs onceRejected fine (reported 25 (flatAt (point (ofBits binary64 0x40a3_9fff_ffff_da9e)
+      (ofBits binary64 0x3fe4_0000_0000_2562)) 3 none lowFreedom)))
   -- a gap is judged after the five, so that a refused point comes first
   pub refused-before-gap : T (runs gapThenRefused (bench (number 2000)) (declined 3 10 0))
   -- the position of a gap is the least over the five
@@ -342,7 +353,8 @@ pub record OpeningFigures : Type 0 where
 -- ---- edits of the finished run with the requested distance 100
 
 abbrev pub edits : Script → Edit → Told Brief → Bool
-edits host e expected = sameTold sameBrief (tellFrom (λ c. brief (reportOf c)) host 0 (bind (whole (entered allThree (requested 100 ∷ []))) (λ c. edit c e))) expected
+edits host e expected = sameTold sameBrief (tellFrom (λ c. brief (reportOf c)) host 0
+    (bind (whole (entered allThree (requested 100 ∷ []))) (λ c. edit c e))) expected
 
 abbrev pub newMissing : Which → Point → List Entry
 newMissing shots p = threeAt shots p
@@ -351,7 +363,8 @@ newMissing (new d) p = missing ∷ []
 
 pub record EditFigures : Type 0 where
   -- the 17 questions of the run, and five more; taking out puts none
-  pub put-in : T (edits threeOf (putIn 2 (requested 99)) (reported 22 (flatAt nominal 1 none (Warning.LowEffectiveDegreesOfFreedom ∷ Warning.PredictionOutsideObservedDomain ∷ []))))
+  pub put-in : T (edits threeOf (putIn 2 (requested 99)) (reported 22
+      (flatAt nominal 1 none (Warning.LowEffectiveDegreesOfFreedom ∷ Warning.PredictionOutsideObservedDomain ∷ []))))
   pub taken-out : T (edits threeOf (takeOut 1) (reported 17 (flatAt nominal 1 none lowFreedom)))
   pub exchanged : T (edits threeOf (exchange 1 (requested 300)) (reported 22 (flatAt nominal 1 none lowFreedom)))
   -- a faulty entry, and a gap, at its place in the edited list
@@ -482,20 +495,24 @@ expectedNumbers =
 pub record ReportFigure : Type 0 where
   pub every-number : T (sameTold (sameList (sameOption _is_)) (tell numbersOf linearThree withPriors) (reported 29 expectedNumbers))
   pub its-warnings :
-      T (sameTold (sameList sameWarning) (tell (λ r. r .warnings) linearThree withPriors) (reported 29 (Warning.MvPriorDominated ∷ Warning.PredictionOutsideObservedDomain ∷ [])))
+      T (sameTold (sameList sameWarning) (tell (λ r. r .warnings) linearThree withPriors)
+      (reported 29 (Warning.MvPriorDominated ∷ Warning.PredictionOutsideObservedDomain ∷ [])))
 
 -- runs that end in a poll
 pub record PollFigures : Type 0 where
   -- a gain of exactly 1e-8 is not taken: 30 trials, 8 candidates at each of ten radii
-  pub gain-level : T (runs strict (zeros (number 2000) (ratio 3 10)) (reported 132 (polledAt nominal true 80 none (Warning.ObjectiveMeshConvergence ∷ lowFreedom))))
+  pub gain-level : T (runs strict (zeros (number 2000) (ratio 3 10))
+      (reported 132 (polledAt nominal true 80 none (Warning.ObjectiveMeshConvergence ∷ lowFreedom))))
   -- of two equal candidates the first is taken
   pub first-of-equal :
       T (runs tied (zeros (number 2000) (ratio 3 10))
-      (reported 140 (polledAt (point (number 2001) (ratio 3 10)) true 88 (some Failure.RankDeficientInformation) (Warning.ObjectiveMeshConvergence ∷ weakIllUnavailable))))
+      (reported 140 (polledAt (point (number 2001) (ratio 3 10)) true 88 (some Failure.RankDeficientInformation)
+      (Warning.ObjectiveMeshConvergence ∷ weakIllUnavailable))))
   -- at a bound two of the eight candidates are unmoved, which are neither asked nor counted
   pub unmoved-skipped :
       T (runs (knee (number 2)) (zeros (number 1000) (ratio 3 2))
-      (reported 112 (polledAt (point (number 1000) (ratio 3 2)) true 60 (some Failure.MapAtParameterBound) (Warning.ObjectiveMeshConvergence ∷ weakIllUnavailable))))
+      (reported 112 (polledAt (point (number 1000) (ratio 3 2)) true 60 (some Failure.MapAtParameterBound)
+      (Warning.ObjectiveMeshConvergence ∷ weakIllUnavailable))))
   -- an unfit determinant asks nothing, and counts as a trial
   pub unfit-counts :
       T (runs unfitAtFirst (zeros (number 2000) (ratio 3 10))
@@ -540,4 +557,5 @@ pub record LimitFigures : Type 0 where
 pub record CutFigure : Type 0 where
   pub cut :
       T (runs (knee (ofBits binary64 0x3ff5_6e97_8d4f_df3b)) (zeros (number 1000) (ratio 3 2))
-      (reported 1076 (polledAt (point (number 1000) (ofBits binary64 0x3ff5_6c8b_4395_8156)) true 1024 (some Failure.MapAtParameterBound) (Warning.ObjectiveMeshConvergence ∷ weakIllUnavailable))))
+      (reported 1076 (polledAt (point (number 1000) (ofBits binary64 0x3ff5_6c8b_4395_8156)) true 1024 (some Failure.MapAtParameterBound)
+      (Warning.ObjectiveMeshConvergence ∷ weakIllUnavailable))))

@@ -1,4 +1,5 @@
--- What a host sees of a session: what an answer says, where the session stands, and what each call does to it. The contracts of the calls are one family over what a session shows.
+-- What a host sees of a session: what an answer says, where the session stands, and what each call does to it. The contracts of the calls are one family over
+-- what a session shows.
 use Prim.Native.Nat.{ℕ, suc}
 use mathlib.Core.Path.{_≡_}
 use mathlib.Core.Bool.{Bool, true, false, cond, _&&_}

@@ -13,7 +13,8 @@ use Rattle.matrix.specs.declared.Symmetric2.{Symmetric2}
 use Rattle.interval.specs.Interval.{level95, factor95, intervalOf}
 use Rattle.interval.specs.declared.GaussianIntervalV1.{GaussianIntervalV1}
 use Rattle.criteria.specs.Criteria.{mvMin, mvMax, bcMin, bcMax, atBoundOf}
-use Rattle.definition.specs.Constants.{_⊕_, _⊖_, _⊗_, _⊘_, squared, mvScale, bcScale, varianceTolerance, leastSensitivityRatio, largestCondition, priorDominance, epsilon}
+use Rattle.definition.specs.Constants.{_⊕_, _⊖_, _⊗_, _⊘_, squared, mvScale, bcScale, varianceTolerance, leastSensitivityRatio, largestCondition}
+use Rattle.definition.specs.Constants.{priorDominance, epsilon}
 use Rattle.definition.specs.Lists.{any, zipWith, zipWith3}
 use Rattle.definition.specs.Request.{Observation, Requested, Measured}
 use Rattle.definition.specs.Run.{Reply, refused, entries, Reading, readingOf}

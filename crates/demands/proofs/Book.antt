@@ -23,8 +23,12 @@ use Rattle.fresh_outcome.proofs.Reports.{only-band}
 use Rattle.definition.specs.Session.{head, listOf, sizesFor, wants, rightLength}
 use Rattle.definition.specs.declared.Step.{Step}
 use Rattle.definition.specs.declared.Step.the-variants as Step
-use Rattle.demands.specs.Calls.{Call, reply, refusePoint, change, resume, Editing, At, first, restAt, keptBy, finishedBy, finishedAt, reportBy, Taking, declines, takes, takingReply, takingRefusal, takingEdit, stance, withReply, withEdit, afterTaken, unlessDeclined, afterCall, due, dueTo}
-use Rattle.demands.specs.Book.{sizeOf, heard, Where, inRun, idle, inEdit, Book, isReport, opened, reports, ruledReply, ruledRefusal, ruledEdit, ruled, standsBy, settled, editHeard, runHeard, replyHeard, callHeard, booked, Question, aboutOf, questionIn, Trail, repliesWith, begun, followed, Replies, Comes, FromSolver, saidBy, reportFrom, Ends, Edits, standingReport, Holds}
+use Rattle.demands.specs.Calls.{Call, reply, refusePoint, change, resume, Editing, At, first, restAt, keptBy, finishedBy, finishedAt, reportBy, Taking}
+use Rattle.demands.specs.Calls.{declines, takes, takingReply, takingRefusal, takingEdit, stance, withReply, withEdit, afterTaken, unlessDeclined}
+use Rattle.demands.specs.Calls.{afterCall, due, dueTo}
+use Rattle.demands.specs.Book.{sizeOf, heard, Where, inRun, idle, inEdit, Book, isReport, opened, reports, ruledReply, ruledRefusal, ruledEdit, ruled}
+use Rattle.demands.specs.Book.{standsBy, settled, editHeard, runHeard, replyHeard, callHeard, booked, Question, aboutOf, questionIn, Trail, repliesWith}
+use Rattle.demands.specs.Book.{begun, followed, Replies, Comes, FromSolver, saidBy, reportFrom, Ends, Edits, standingReport, Holds}
 
 -- ---- in general
 
@@ -58,7 +62,8 @@ report-end (refuses n i) = refl
 
 -- ---- one reply more
 
-pub resume-more : (t : Run Finished) (rs : List Reply) (r : Reply) (p : Point) (w : Which) (k : Reply → Run Finished) → resume t rs ≡ ask p w k → resume t (rs ++ (r ∷ [])) ≡ k r
+pub resume-more : (t : Run Finished) (rs : List Reply) (r : Reply) (p : Point) (w : Which) (k : Reply → Run Finished) → resume t rs ≡ ask p w k
+    → resume t (rs ++ (r ∷ [])) ≡ k r
 resume-more (done c) [] r p w k e = cc
 resume-more (refuse n i) [] r p w k e = cc
 resume-more (ask p′ w′ k′) [] r p w k e = cc
@@ -199,7 +204,8 @@ module _ (σ : Solver) (o : Opening) where
   open-none n kept (refuse m i) e = not-none (sym e)
   open-none n kept (ask p w k) e = refl
 
-  reads-so : (kept : Option Finished) (left : Run Finished) (list : List Requested) (asked : Option Question) (m : ℕ) (at : Where) → Stands σ o kept left list asked m at
+  reads-so : (kept : Option Finished) (left : Run Finished) (list : List Requested) (asked : Option Question) (m : ℕ) (at : Where)
+      → Stands σ o kept left list asked m at
       → reportBy (finishedBy kept left) ≡ cond (standsBy σ o at) (reportFrom none (fresh σ o list)) none
   reads-so kept left list asked m (inRun n) s = ap reportBy (open-none n kept left (s .1 .hears))
   reads-so kept left list asked m idle s = ap reportBy (s .finished) ∙ by (reports σ o (o .requested))
@@ -209,7 +215,8 @@ module _ (σ : Solver) (o : Opening) where
       by false = refl
   reads-so kept left list asked m (inEdit n e) s = ap reportBy (open-none n kept left (s .1 .hears))
 
-  reported-so : (kept : Option Finished) (left : Run Finished) (list : List Requested) (asked : Option Question) (m : ℕ) (at : Where) → Stands σ o kept left list asked m at
+  reported-so : (kept : Option Finished) (left : Run Finished) (list : List Requested) (asked : Option Question) (m : ℕ) (at : Where)
+      → Stands σ o kept left list asked m at
       → standsBy σ o at ≡ true → reports σ o list ≡ true
   reported-so kept left list asked m (inRun n) s b = not-both (sym b)
   reported-so kept left list asked m idle s b = s .reported b
@@ -221,7 +228,8 @@ module _ (σ : Solver) (o : Opening) where
   sized-so (new d) = refl
 
   module _ (ds : List Float) (ms : List Bool) where
-    reply-open : (n : ℕ) (left : Run Finished) → heard o (head left) ≡ some n → cond (rightLength n ds ms) takes (declines 9) ≡ takingReply (sizesFor o) left ds ms
+    reply-open : (n : ℕ) (left : Run Finished) → heard o (head left) ≡ some n
+        → cond (rightLength n ds ms) takes (declines 9) ≡ takingReply (sizesFor o) left ds ms
     reply-open n (done c) e = not-none (sym e)
     reply-open n (refuse m i) e = not-none (sym e)
     reply-open n (ask p w k) e =
@@ -236,7 +244,8 @@ module _ (σ : Solver) (o : Opening) where
     reply-none (refuse m i) e = refl
     reply-none (ask p w k) e = not-none e
 
-    reply-so : (kept : Option Finished) (left : Run Finished) (list : List Requested) (asked : Option Question) (m : ℕ) (at : Where) → Stands σ o kept left list asked m at
+    reply-so : (kept : Option Finished) (left : Run Finished) (list : List Requested) (asked : Option Question) (m : ℕ) (at : Where)
+        → Stands σ o kept left list asked m at
         → ruledReply σ o at ds ms ≡ takingReply (sizesFor o) left ds ms
     reply-so kept left list asked m (inRun n) s = reply-open n left (s .1 .hears)
     reply-so kept left list asked m idle s = reply-none left (s .hears)
@@ -252,18 +261,21 @@ module _ (σ : Solver) (o : Opening) where
   refusal-none (refuse m i) e = refl
   refusal-none (ask p w k) e = not-none e
 
-  refusal-so : (kept : Option Finished) (left : Run Finished) (list : List Requested) (asked : Option Question) (m : ℕ) (at : Where) → Stands σ o kept left list asked m at
+  refusal-so : (kept : Option Finished) (left : Run Finished) (list : List Requested) (asked : Option Question) (m : ℕ) (at : Where)
+      → Stands σ o kept left list asked m at
       → ruledRefusal σ o at ≡ takingRefusal left
   refusal-so kept left list asked m (inRun n) s = refusal-open n left (s .1 .hears)
   refusal-so kept left list asked m idle s = refusal-none left (s .hears)
   refusal-so kept left list asked m (inEdit n e) s = refusal-open n left (s .1 .hears)
 
   -- the list of a finished run is the book's
-  edit-so : (e : Edit) (kept : Option Finished) (left : Run Finished) (list : List Requested) (asked : Option Question) (m : ℕ) (at : Where) → Stands σ o kept left list asked m at
+  edit-so : (e : Edit) (kept : Option Finished) (left : Run Finished) (list : List Requested) (asked : Option Question) (m : ℕ) (at : Where)
+      → Stands σ o kept left list asked m at
       → cond (standsBy σ o at) (cond (placed e (length list)) takes (declines 15)) (declines 14) ≡ takingEdit (finishedBy kept left) e
   edit-so e kept left list asked m (inRun n) s = ap (λ (q : Option Finished). takingEdit q e) (sym (open-none n kept left (s .1 .hears)))
   edit-so e kept left list asked m (inEdit n f) s = ap (λ (q : Option Finished). takingEdit q e) (sym (open-none n kept left (s .1 .hears)))
-  edit-so e kept left list asked m idle s = by (reports σ o (o .requested)) (s .reported) (fresh σ o list) refl ∙ ap (λ (q : Option Finished). takingEdit q e) (sym (s .finished))
+  edit-so e kept left list asked m idle s = by (reports σ o (o .requested)) (s .reported) (fresh σ o list) refl
+      ∙ ap (λ (q : Option Finished). takingEdit q e) (sym (s .finished))
     where
       by : (b : Bool) → (b ≡ true → reports σ o list ≡ true) → (f : Outcome Finished) → fresh σ o list ≡ f
           → cond b (cond (placed e (length list)) takes (declines 15)) (declines 14) ≡ takingEdit (cond b (endOf (fresh σ o list)) none) e
@@ -277,7 +289,8 @@ module _ (σ : Solver) (o : Opening) where
 
 module _ (σ : Solver) (o : Opening) (t : At) where
   -- a reply from the solver is the host's, so what is left comes to what it came to
-  goes-on : {most : ℕ} (h : Host) (at : ℕ → Where) (n : ℕ) (asked : Option Question) (r : Reply) (left : Run Finished) → restAt o t ≡ left → Opens σ o at n left asked
+  goes-on : {most : ℕ} (h : Host) (at : ℕ → Where) (n : ℕ) (asked : Option Question) (r : Reply) (left : Run Finished) → restAt o t ≡ left
+      → Opens σ o at n left asked
       → Asks (Suits σ o h at) most left → Replies σ asked r
       → Asks (Suits σ o h at) most (restAt o (withReply (t .run) (t .last) r)) × (play h (restAt o (withReply (t .run) (t .last) r)) ≡ play h left)
       × (suc (questions h (restAt o (withReply (t .run) (t .last) r))) ≡ questions h left)
@@ -285,8 +298,12 @@ module _ (σ : Solver) (o : Opening) (t : At) where
   goes-on h at n asked r (refuse m i) e s w q = not-none (sym (s .hears))
   goes-on {most} h at n asked r (ask p v k) e s w q =
       let next : restAt o (withReply (t .run) (t .last) r) ≡ k r = rest-more o (t .run) (t .last) r p v k e in
-      let same : r ≡ h p v = subst (λ (x : Option Question). Replies σ x r) (s .asks) q ∙ sym (asks-now w n) in
-      (subst (Asks (Suits σ o h at) most) (sym next) (asks-next w r), ap (play h) next ∙ ap (λ (x : Reply). play h (k x)) same, ap (λ (x : Run Finished). suc (questions h x)) next ∙ ap (λ (x : Reply). suc (questions h (k x))) same)
+      let same : r ≡ h p v = subst (λ (x : Option Question). Replies σ x r) (s .asks) q ∙ sym (asks-now w n) in (
+        subst (Asks (Suits σ o h at) most) (sym next) (asks-next w r),
+        ap (play h) next
+            ∙ ap (λ (x : Reply). play h (k x)) same,
+        ap (λ (x : Run Finished). suc (questions h x)) next ∙ ap (λ (x : Reply). suc (questions h (k x))) same,
+      )
 
 module _ (σ : Solver) (o : Opening) (t : At) (u : Trail) (a : Agrees σ o t u) where
   abbrev list : List Requested
@@ -301,7 +318,14 @@ module _ (σ : Solver) (o : Opening) (t : At) (u : Trail) (a : Agrees σ o t u) 
   run-replied n e r q =
       let s = stands-at (inRun n) e in
       let g = goes-on σ o t (hostOf σ o) inRun n (u .asked) r (restAt o t) refl (s .1) (s .0 .suits) q in
-      record { none-kept = kept-more o (t .run) (t .last) r ∙ s .0 .none-kept; listed = s .0 .listed; suits = g .0; plays = g .1 ∙ s .0 .plays; counted = omega (arith, s .0 .counted, g .2) }
+      record {
+        none-kept = kept-more o (t .run) (t .last) r ∙ s .0 .none-kept;
+        listed = s .0 .listed;
+        suits = g .0;
+        plays = g .1
+            ∙ s .0 .plays;
+        counted = omega (arith, s .0 .counted, g .2);
+      }
 
   -- a reply to an edit
   edit-replied : (n : ℕ) (e : Edit) → u .book .at ≡ inEdit n e → (r : Reply) → Replies σ (u .asked) r
@@ -345,7 +369,8 @@ module _ (σ : Solver) (o : Opening) (t : At) (u : Trail) (a : Agrees σ o t u) 
       by-report true b s p = by-outcome (fresh σ o list) refl s b (if-takes (placed e (length list)) 15 p)
       by-report false b s p = apart p
 
-      by : (at : Where) → u .book .at ≡ at → cond (standsBy σ o at) (cond (placed e (length list)) takes (declines 15)) (declines 14) ≡ takes → Changed e (finishedAt o t)
+      by : (at : Where) → u .book .at ≡ at → cond (standsBy σ o at) (cond (placed e (length list)) takes (declines 15)) (declines 14) ≡ takes
+          → Changed e (finishedAt o t)
       by (inRun n) i p = apart p
       by idle i p = by-report (reports σ o (o .requested)) refl (stands-at idle i) p
       by (inEdit n f) i p = apart p
@@ -371,7 +396,8 @@ module _ (σ : Solver) (o : Opening) (t : At) (u : Trail) (a : Agrees σ o t u) 
 
   -- a taken call leads to where this book stands
   abbrev Leads : Call → (Option ℕ → Book) → Type 0
-  Leads x b = let left = restAt o (afterTaken o t x) in StandsBy σ o (keptBy (afterTaken o t x .last)) left (noted o (b (heard o (head left))) (head left) (repliesWith (u .replies) x))
+  Leads x b = let left = restAt o (afterTaken o t x) in StandsBy σ o (keptBy (afterTaken o t x .last)) left
+      (noted o (b (heard o (head left))) (head left) (repliesWith (u .replies) x))
 
   -- where a reply is taken, the run has a question open, or an edit has
   reply-leads : (x : Call) → FromSolver σ o u x → ruled σ o (u .book) x ≡ takes → ((n : ℕ) (e : Edit) → u .book .at ≡ inEdit n e → Edits (u .book) x e)
@@ -406,8 +432,11 @@ opened-stops σ o = stops-so σ o (hostOf σ o) (whole o) 0 _ (first-goes σ o .
 pub agrees-opened : (σ : Solver) (o : Opening)
     → (heard o (head (whole o)) ≡ none → Ends (fresh σ o (o .requested)) none (head (whole o)) (λ p. reportBy (finishedAt o first) ≡ p))
     × (reportBy (finishedAt o first) ≡ standingReport σ o (opened o (heard o (head (whole o)))))
-agrees-opened σ o =
-    (ends-so σ o (hostOf σ o) none (whole o) (fresh σ o (o .requested)) none (first-goes σ o .plays) refl, stands-by σ o first (begun o (head (whole o))) (agrees-first σ o))
+agrees-opened σ o = (
+  ends-so σ o (hostOf σ o) none (whole o) (fresh σ o (o .requested)) none (first-goes σ o .plays) refl,
+  stands-by σ o first (begun o (head (whole o)))
+      (agrees-first σ o),
+)
 
 pub agrees-ruled : (σ : Solver) (o : Opening) (t : At) (u : Trail) → Agrees σ o t u → (x : Call) → ruled σ o (u .book) x ≡ stance o t x
 agrees-ruled σ o t u a (reply ds ms) = reply-so σ o ds ms (keptBy (t .last)) (restAt o t) (u .book .list) (u .asked) (u .replies) (u .book .at) (a .is)
@@ -425,7 +454,8 @@ module _ (σ : Solver) (o : Opening) (t : At) (u : Trail) (a : Agrees σ o t u) 
   trailBy y said = unlessDeclined y u (noted o (unlessDeclined y (u .book) (callHeard σ o (u .book) x (heard o said))) said (repliesWith (u .replies) x))
 
   next : Agrees σ o (afterCall o t x) (followed σ o u x (dueTo o t x))
-  next = subst (λ (y : Taking). Agrees σ o (placeBy (stance o t x)) (trailBy y (saidTo (stance o t x)))) (sym (agrees-ruled σ o t u a x)) (by (stance o t x) refl)
+  next = subst (λ (y : Taking). Agrees σ o (placeBy (stance o t x)) (trailBy y (saidTo (stance o t x)))) (sym (agrees-ruled σ o t u a x))
+      (by (stance o t x) refl)
     where
       by : (y : Taking) → stance o t x ≡ y → Agrees σ o (placeBy y) (trailBy y (saidTo y))
       by (declines n) e = a
@@ -437,7 +467,8 @@ module _ (σ : Solver) (o : Opening) (t : At) (u : Trail) (a : Agrees σ o t u) 
   booked-so takes said = refl
 
   -- what holds of the call as taken
-  as-taken : (P : At → Step → Type 0) → ruled σ o (u .book) x ≡ takes → P (afterTaken o t x) (head (restAt o (afterTaken o t x))) → P (afterCall o t x) (dueTo o t x)
+  as-taken : (P : At → Step → Type 0) → ruled σ o (u .book) x ≡ takes → P (afterTaken o t x) (head (restAt o (afterTaken o t x)))
+      → P (afterCall o t x) (dueTo o t x)
   as-taken P e h = subst (λ (y : Taking). P (placeBy y) (saidTo y)) (sym (sym (agrees-ruled σ o t u a x) ∙ e)) h
 
   abbrev EndsSo : Outcome Finished → Option Report → At → Step → Type 0
@@ -464,17 +495,20 @@ module _ (σ : Solver) (o : Opening) (t : At) (u : Trail) (a : Agrees σ o t u) 
             as-taken (StopsSo (questions host (edit c f))) e (stops-so σ o host left _ _ (g .counted ∙ ap (λ (b : Finished). questions host (edit b f)) same));
         run-ends = λ n i e.
             let g = run-taken σ o t u a x q e n i in
-            as-taken (EndsSo (fresh σ o (o .requested)) none) e (ends-so σ o (hostOf σ o) kept left (fresh σ o (o .requested)) none (g .plays) (ap reportBy (g .none-kept)));
+            as-taken (EndsSo (fresh σ o (o .requested)) none) e
+            (ends-so σ o (hostOf σ o) kept left (fresh σ o (o .requested)) none (g .plays) (ap reportBy (g .none-kept)));
         edit-ends = λ f i e.
             let g = edit-taken σ o t u a x q e f i in
             let was = reportFrom none (fresh σ o list) in
             as-taken (EndsSo (fresh σ o (edited f list)) was) e
-            (ends-so σ o (hostOf σ (withList o list)) kept left (fresh σ o (edited f list)) was (g .plays) (ap reportBy (g .was-kept) ∙ ap (reportFrom none) (sym (g .before))));
+            (ends-so σ o (hostOf σ (withList o list)) kept left (fresh σ o (edited f list)) was (g .plays)
+            (ap reportBy (g .was-kept) ∙ ap (reportFrom none) (sym (g .before))));
         stands = stands-by σ o (afterCall o t x) then next ∙ ap (standingReport σ o) (sym b);
         reported = λ h.
             let is : standsBy σ o (then .book .at) ≡ true = ap (λ (c : Book). standsBy σ o (c .at)) (sym b) ∙ h in
             ap (λ (c : Book). reports σ o (c .list)) b
-            ∙ reported-so σ o (keptBy (afterCall o t x .last)) (restAt o (afterCall o t x)) (then .book .list) (then .asked) (then .replies) (then .book .at) (next .is) is;
+            ∙ reported-so σ o (keptBy (afterCall o t x .last)) (restAt o (afterCall o t x)) (then .book .list) (then .asked) (then .replies) (then .book .at)
+            (next .is) is;
       }
 
 pub agrees-next : (σ : Solver) (o : Opening) (t : At) (u : Trail) → Agrees σ o t u → (x : Call) → FromSolver σ o u x

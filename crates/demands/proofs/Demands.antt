@@ -36,13 +36,18 @@ use Rattle.definition.specs.Session.{Sized}
 use Rattle.editing.proofs.Contracts.{Stands, Declines, entriesTaken, refusalTaken, editTaken, Opened, Replied, PointRefused, Edited}
 use Rattle.editing.specs.declared.Session.{Session}
 use Rattle.editing.specs.declared.Answer.{Answer}
-use Rattle.demands.specs.Calls.{Call, reply, refusePoint, change, resume, Editing, At, first, restBy, restAt, keptBy, finishedBy, finishedAt, reportBy, Taking, declines, takes, takingReply, takingRefusal, takingEdit, stance, withReply, withEdit, afterTaken, unlessDeclined, afterCall, due, dueTo}
+use Rattle.demands.specs.Calls.{Call, reply, refusePoint, change, resume, Editing, At, first, restBy, restAt, keptBy, finishedBy, finishedAt, reportBy}
+use Rattle.demands.specs.Calls.{Taking, declines, takes, takingReply, takingRefusal, takingEdit, stance, withReply, withEdit, afterTaken, unlessDeclined}
+use Rattle.demands.specs.Calls.{afterCall, due, dueTo}
 use Rattle.demands.specs.Book.{heard, opened, ruled, Ends, Edits, standingReport as standsWith, Holds, Trail, begun, followed, FromSolver}
 use Rattle.demands.specs.Demands as stated
-use Rattle.demands.specs.Demands.{Made, Meets, Chained, Throughout, ReadsAs, checked, OpensProperly, countedSaid, mostOf, EndsProperly, Demand1, OpensAsDefined, AsDefined, Demand2, Changes, editedFrom, nextTrail, AllFrom, OpensFresh, EndsFresh, beforeEdit, Along, Demand3}
+use Rattle.demands.specs.Demands.{Made, Meets, Chained, Throughout, ReadsAs, checked, OpensProperly, countedSaid, mostOf, EndsProperly, Demand1}
+use Rattle.demands.specs.Demands.{OpensAsDefined, AsDefined, Demand2, Changes, editedFrom, nextTrail, AllFrom, OpensFresh, EndsFresh, beforeEdit, Along}
+use Rattle.demands.specs.Demands.{Demand3}
 use Rattle.demands.specs.Example as example
 use Rattle.demands.specs.Standing.{IsNew, News, Inv}
-use Rattle.demands.proofs.Book.{resume-more, rest-more, kept-more, Agrees, agrees-first, agrees-ruled, agrees-next, agrees-holds, agrees-changes, agrees-opened, opened-stops}
+use Rattle.demands.proofs.Book.{resume-more, rest-more, kept-more, Agrees, agrees-first, agrees-ruled, agrees-next, agrees-holds, agrees-changes}
+use Rattle.demands.proofs.Book.{agrees-opened, opened-stops}
 
 -- ---- the count
 
@@ -62,7 +67,8 @@ plus-suc n (done c) = refl
 plus-suc n (refuse m i) = refl
 plus-suc n (ask p w k) = refl
 
-put-more : (t : Run Finished) (rs : List Reply) (r : Reply) (p : Point) (w : Which) (k : Reply → Run Finished) → resume t rs ≡ ask p w k → put t (rs ++ (r ∷ [])) ≡ plus (put t rs) (k r)
+put-more : (t : Run Finished) (rs : List Reply) (r : Reply) (p : Point) (w : Which) (k : Reply → Run Finished) → resume t rs ≡ ask p w k
+    → put t (rs ++ (r ∷ [])) ≡ plus (put t rs) (k r)
 put-more (done c) [] r p w k e = cc
 put-more (refuse n i) [] r p w k e = cc
 put-more (ask p′ w′ k′) [] r p w k e =
@@ -96,14 +102,16 @@ asked-after (done c) (r ∷ rs) p w k e = cc
 asked-after (refuse n i) (r ∷ rs) p w k e = cc
 asked-after (ask p′ w′ k′) (r ∷ rs) p w k e = ap suc (asked-after (k′ r) rs p w k e)
 
-few-replies : (c : Finished) (e : Edit) (rs : List Reply) (p : Point) (w : Which) (k : Reply → Run Finished) → resume (edit c e) rs ≡ ask p w k → length rs < mostOf e
+few-replies : (c : Finished) (e : Edit) (rs : List Reply) (p : Point) (w : Which) (k : Reply → Run Finished) → resume (edit c e) rs ≡ ask p w k
+    → length rs < mostOf e
 unfolding edit
 few-replies c (putIn i d) rs p w k e = omega (arith, count-of-edit c (putIn i d) rs, asked-after (edit c (putIn i d)) rs p w k e)
 few-replies c (takeOut i) [] p w k e = let z : _≡_ {A = ℕ} 0 1 = cc in absurd (omega arith)
 few-replies c (takeOut i) (r ∷ rs) p w k e = let z : _≡_ {A = ℕ} 0 1 = cc in absurd (omega arith)
 few-replies c (exchange i d) rs p w k e = omega (arith, count-of-edit c (exchange i d) rs, asked-after (edit c (exchange i d)) rs p w k e)
 
-edit-asks : (o : Opening) (t : At) (x : Editing) → t .last ≡ some x → (mv bc : Float) (list : Distances) → head (restAt o t) ≡ Step.Question mv bc list → length (x .replies) < mostOf (x .made)
+edit-asks : (o : Opening) (t : At) (x : Editing) → t .last ≡ some x → (mv bc : Float) (list : Distances) → head (restAt o t) ≡ Step.Question mv bc list
+    → length (x .replies) < mostOf (x .made)
 edit-asks o t x l mv bc list q =
     by (resume (edit (x .of) (x .made)) (x .replies)) refl (subst (λ (y : Option Editing). head (restBy o (t .run) y) ≡ Step.Question mv bc list) l q)
   where
@@ -137,7 +145,8 @@ news-edit : (c : Finished) (e : Edit) → Asks IsNew 5 (edit c e)
 news-edit c e = asks-edit c e (every-new IsNew (λ p x. tt) e)
 
 -- how many entries the open question wants: by the opening, or one
-same-wants : (last : Option Editing) (p : Point) (w : Which) (k : Reply → Run Finished) (z y : Sizes) → Sized (keptBy last) z y → News last (ask p w k) → wants y w ≡ wants z w
+same-wants : (last : Option Editing) (p : Point) (w : Which) (k : Reply → Run Finished) (z y : Sizes) → Sized (keptBy last) z y → News last (ask p w k)
+    → wants y w ≡ wants z w
 same-wants none p w k z y d n = ap (λ (x : Sizes). wants x w) d
 same-wants (some x) p shots k z y d n = absurd (asks-now n)
 same-wants (some x) p distances k z y d n = absurd (asks-now n)
@@ -168,15 +177,18 @@ module _ (o : Opening) where
   limited rs n e = let b = count o rs in omega arith
 
   -- an edit that is let through is of the finished run that stands
-  edits-of : (t : At) (s : Session) → Inv o t s → (x : Call) (y : Editing) → stance o t x ≡ takes → x ≡ change (y .made) → afterCall o t x .last ≡ some y → ReadsAs s (some (reportOf (y .of)))
+  edits-of : (t : At) (s : Session) → Inv o t s → (x : Call) (y : Editing) → stance o t x ≡ takes → x ≡ change (y .made) → afterCall o t x .last ≡ some y
+      → ReadsAs s (some (reportOf (y .of)))
   edits-of t s h x y st ex el =
       by (finishedAt o t) refl (subst (λ (z : Call). stance o t z ≡ takes) ex st) (subst (λ (z : Call). afterCall o t z .last ≡ some y) ex el)
     where
-      by : (f : Option Finished) → finishedAt o t ≡ f → takingEdit f (y .made) ≡ takes → unlessDeclined (takingEdit f (y .made)) t (withEdit t f (y .made)) .last ≡ some y
+      by : (f : Option Finished) → finishedAt o t ≡ f → takingEdit f (y .made) ≡ takes
+          → unlessDeclined (takingEdit f (y .made)) t (withEdit t f (y .made)) .last ≡ some y
           → ReadsAs s (some (reportOf (y .of)))
       by none e st el = absurd (apart (sym st))
       by (some c) e st el =
-          let q : some (record { of = c; made = y .made; replies = [] }) ≡ some y = sym (ap (λ (z : Taking). unlessDeclined z t (withEdit t (some c) (y .made)) .last) st) ∙ el in
+          let q : some (record { of = c; made = y .made; replies = [] }) ≡ some y = sym
+          (ap (λ (z : Taking). unlessDeclined z t (withEdit t (some c) (y .made)) .last) st) ∙ el in
           let one : c ≡ y .of = ap (λ (z : Option Editing). ofOr c z) q in
           subst (λ (f : Finished). ReadsAs s (some (reportOf f))) one (subst (λ (f : Option Finished). ReadsAs s (reportBy f)) e (inv-reads o t s h))
 
@@ -185,7 +197,8 @@ module _ (o : Opening) where
     restores : (v : At) (r : Session) → Inv o v r → (x : Editing) (n i : ℕ) → v .last ≡ some x → restAt o v ≡ refuse n i → ReadsAs r (some (reportOf (x .of)))
     restores v r g x n i el er =
         subst (λ (p : Option Report). ReadsAs r p)
-        (ap (λ (l : Option Editing). reportBy (finishedBy (keptBy l) (restAt o v))) el ∙ ap (λ (u : Run Finished). reportBy (finishedBy (some (x .of)) u)) er) (inv-reads o v r g)
+        (ap (λ (l : Option Editing). reportBy (finishedBy (keptBy l) (restAt o v))) el
+        ∙ ap (λ (u : Run Finished). reportBy (finishedBy (some (x .of)) u)) er) (inv-reads o v r g)
 
     -- declined: the answer is the number, and the session as it was
     no : (c : Made) (n : ℕ) → stance o t (c .call) ≡ declines n → Declines (c .answer) s n → Good o t s c
@@ -193,12 +206,14 @@ module _ (o : Opening) where
         let same : c .answer .session ≡ s = d .same in
         let stays : afterCall o t (c .call) ≡ t = ap (λ (x : Taking). unlessDeclined x t (afterTaken o t (c .call))) e in
         let number : c .answer .step ≡ Step.Refused n 0 = d .says in
-        let next : Inv o (afterCall o t (c .call)) (c .answer .session) = subst (λ (v : At). Inv o v (c .answer .session)) (sym stays) (subst (Inv o t) (sym same) h) in
+        let next : Inv o (afterCall o t (c .call)) (c .answer .session) = subst (λ (v : At). Inv o v (c .answer .session)) (sym stays)
+        (subst (Inv o t) (sym same) h) in
         record {
           inv = next;
           proper = record {
             declined = λ m f. (number ∙ ap (λ (x : ℕ). Step.Refused x 0) (numbers (sym e ∙ f)), same);
-            counted = ap stated.count same ∙ sym (ap (countedSaid (afterCall o t (c .call) .last) (stated.count s)) number ∙ refused-counts (afterCall o t (c .call) .last) (stated.count s) n);
+            counted = ap stated.count same ∙ sym (ap (countedSaid (afterCall o t (c .call) .last) (stated.count s)) number
+                ∙ refused-counts (afterCall o t (c .call) .last) (stated.count s) n);
             limited = limited (afterCall o t (c .call) .run) (stated.count (c .answer .session)) (next .counts);
             edit-limited = λ x el mv bc list q. no-question (sym number ∙ q);
             edits = λ x st ex el. edits-of t s h (c .call) x st ex el;
@@ -238,7 +253,8 @@ module _ (o : Opening) where
         }
 
   -- one reply more
-  replies : (rs : List Reply) (last : Option Editing) (s : Session) → Inv o (record { run = rs; last = last }) s → (r : Reply) (p : Point) (w : Which) (k : Reply → Run Finished)
+  replies : (rs : List Reply) (last : Option Editing) (s : Session) → Inv o (record { run = rs; last = last }) s
+      → (r : Reply) (p : Point) (w : Which) (k : Reply → Run Finished)
       → restAt o (record { run = rs; last = last }) ≡ ask p w k → (a : Answer) → Stands a (seen s .sizes) (keptBy last) (stated.count s) (k r)
       → Inv o (withReply rs last r) (a .session) × (stated.count (a .session) ≡ countedSaid (withReply rs last r .last) (stated.count s) (a .step))
   replies rs none s h r p w k at a d =
@@ -272,7 +288,8 @@ module _ (o : Opening) where
     by-wants p w k e = same-wants (t .last) p w k (sizesFor o) (seen s .sizes) (h .sized) (subst (News (t .last)) e (h .news))
 
     -- a reply that is taken
-    took : (c : Made) (r : Reply) (p : Point) (w : Which) (k : Reply → Run Finished) → restAt o t ≡ ask p w k → stance o t (c .call) ≡ takes → afterTaken o t (c .call) ≡ withReply (t .run) (t .last) r
+    took : (c : Made) (r : Reply) (p : Point) (w : Which) (k : Reply → Run Finished) → restAt o t ≡ ask p w k → stance o t (c .call) ≡ takes
+        → afterTaken o t (c .call) ≡ withReply (t .run) (t .last) r
         → Stands (c .answer) (seen s .sizes) (keptBy (t .last)) (stated.count s) (k r) → Good o t s c
     took c r p w k at e same d =
         let goes : afterCall o t (c .call) ≡ withReply (t .run) (t .last) r = ap (λ (x : Taking). unlessDeclined x t (afterTaken o t (c .call))) e ∙ same in
@@ -280,7 +297,8 @@ module _ (o : Opening) where
         yes t s h c (withReply (t .run) (t .last) r) e goes (next .0) (d .says ∙ ap head (sym (rest-more o (t .run) (t .last) r p w k at))) (next .1)
 
     -- no question is open
-    replied-closed : (ds : List Float) (ms : List Bool) (a : Answer) (kept : Option Finished) (u : Run Finished) → entriesTaken (meaning.after kept u) s ds ms a → takingReply (sizesFor o) u ds ms ≡ declines 8
+    replied-closed : (ds : List Float) (ms : List Bool) (a : Answer) (kept : Option Finished) (u : Run Finished) → entriesTaken (meaning.after kept u) s ds ms a
+        → takingReply (sizesFor o) u ds ms ≡ declines 8
         → Declines a s 8
     replied-closed ds ms a kept (done c) d e = d
     replied-closed ds ms a none (refuse n i) d e = d
@@ -291,24 +309,28 @@ module _ (o : Opening) where
         by true f = absurd (apart f)
         by false f = let z : _≡_ {A = ℕ} 9 8 = numbers f in absurd (omega arith)
 
-    replied : (ds : List Float) (ms : List Bool) (a : Answer) → Replied s ds ms a → (u : Run Finished) → restAt o t ≡ u → Good o t s (record { call = reply ds ms; answer = a })
+    replied : (ds : List Float) (ms : List Bool) (a : Answer) → Replied s ds ms a → (u : Run Finished) → restAt o t ≡ u
+        → Good o t s (record { call = reply ds ms; answer = a })
     replied ds ms a m (done c) e =
         let f : stance o t (reply ds ms) ≡ declines 8 = ap (λ (u : Run Finished). takingReply (sizesFor o) u ds ms) e in
         no t s h _ 8 f (replied-closed ds ms a (keptBy (t .last)) (done c) (subst (λ (x : State). entriesTaken x s ds ms a) (at-state (done c) e) (m .is)) refl)
     replied ds ms a m (refuse n i) e =
         let f : stance o t (reply ds ms) ≡ declines 8 = ap (λ (u : Run Finished). takingReply (sizesFor o) u ds ms) e in
-        no t s h _ 8 f (replied-closed ds ms a (keptBy (t .last)) (refuse n i) (subst (λ (x : State). entriesTaken x s ds ms a) (at-state (refuse n i) e) (m .is)) refl)
+        no t s h _ 8 f (replied-closed ds ms a (keptBy (t .last)) (refuse n i)
+        (subst (λ (x : State). entriesTaken x s ds ms a) (at-state (refuse n i) e) (m .is)) refl)
     replied ds ms a m (ask p w k) e =
         by (rightLength (wants (seen s .sizes) w) ds ms)
         (ap (λ (u : Run Finished). takingReply (sizesFor o) u ds ms) e ∙ ap (λ (n : ℕ). cond (rightLength n ds ms) takes (declines 9)) (sym (by-wants p w k e)))
         (subst (λ (x : State). entriesTaken x s ds ms a) (at-state (ask p w k) e) (m .is))
       where
-        by : (b : Bool) → stance o t (reply ds ms) ≡ cond b takes (declines 9) → either b (Stands a (seen s .sizes) (keptBy (t .last)) (stated.count s) (k (entries (entriesOf ds ms)))) (Declines a s 9)
+        by : (b : Bool) → stance o t (reply ds ms) ≡ cond b takes (declines 9)
+            → either b (Stands a (seen s .sizes) (keptBy (t .last)) (stated.count s) (k (entries (entriesOf ds ms)))) (Declines a s 9)
             → Good o t s (record { call = reply ds ms; answer = a })
         by true f d = took _ (entries (entriesOf ds ms)) p w k e f refl d
         by false f d = no t s h _ 9 f d
 
-    pointed-closed : (a : Answer) (kept : Option Finished) (u : Run Finished) → refusalTaken (meaning.after kept u) s a → takingRefusal u ≡ declines 8 → Declines a s 8
+    pointed-closed : (a : Answer) (kept : Option Finished) (u : Run Finished) → refusalTaken (meaning.after kept u) s a → takingRefusal u ≡ declines 8
+        → Declines a s 8
     pointed-closed a kept (done c) d e = d
     pointed-closed a none (refuse n i) d e = d
     pointed-closed a (some c) (refuse n i) d e = d
@@ -316,19 +338,23 @@ module _ (o : Opening) where
 
     pointed : (a : Answer) → PointRefused s a → (u : Run Finished) → restAt o t ≡ u → Good o t s (record { call = refusePoint; answer = a })
     pointed a m (done c) e =
-        no t s h _ 8 (ap takingRefusal e) (pointed-closed a (keptBy (t .last)) (done c) (subst (λ (x : State). refusalTaken x s a) (at-state (done c) e) (m .is)) refl)
+        no t s h _ 8 (ap takingRefusal e) (pointed-closed a (keptBy (t .last)) (done c)
+        (subst (λ (x : State). refusalTaken x s a) (at-state (done c) e) (m .is)) refl)
     pointed a m (refuse n i) e =
-        no t s h _ 8 (ap takingRefusal e) (pointed-closed a (keptBy (t .last)) (refuse n i) (subst (λ (x : State). refusalTaken x s a) (at-state (refuse n i) e) (m .is)) refl)
+        no t s h _ 8 (ap takingRefusal e) (pointed-closed a (keptBy (t .last)) (refuse n i)
+        (subst (λ (x : State). refusalTaken x s a) (at-state (refuse n i) e) (m .is)) refl)
     pointed a m (ask p w k) e = took _ refused p w k e (ap takingRefusal e) refl (subst (λ (x : State). refusalTaken x s a) (at-state (ask p w k) e) (m .is))
 
     -- an edit, by the finished run that stands
-    not-finished : (e : Edit) (a : Answer) (kept : Option Finished) (u : Run Finished) → finishedBy kept u ≡ none → editTaken (meaning.after kept u) s e a → Declines a s 14
+    not-finished : (e : Edit) (a : Answer) (kept : Option Finished) (u : Run Finished) → finishedBy kept u ≡ none → editTaken (meaning.after kept u) s e a
+        → Declines a s 14
     not-finished e a kept (done c) f d = let z : _≡_ {A = ℕ} 0 1 = cc in absurd (omega arith)
     not-finished e a none (refuse n i) f d = d
     not-finished e a (some c) (refuse n i) f d = let z : _≡_ {A = ℕ} 0 1 = cc in absurd (omega arith)
     not-finished e a kept (ask p w k) f d = d
 
-    finished : (e : Edit) (a : Answer) (kept : Option Finished) (u : Run Finished) (c : Finished) → finishedBy kept u ≡ some c → editTaken (meaning.after kept u) s e a → editTaken (standing c) s e a
+    finished : (e : Edit) (a : Answer) (kept : Option Finished) (u : Run Finished) (c : Finished) → finishedBy kept u ≡ some c
+        → editTaken (meaning.after kept u) s e a → editTaken (standing c) s e a
     finished e a kept (done b) c f d = let q : b ≡ c = cc in subst (λ (x : Finished). editTaken (standing x) s e a) q d
     finished e a none (refuse n i) c f d = let z : _≡_ {A = ℕ} 0 1 = cc in absurd (omega arith)
     finished e a (some b) (refuse n i) c f d = let q : b ≡ c = cc in subst (λ (x : Finished). editTaken (standing x) s e a) q d
@@ -345,7 +371,8 @@ module _ (o : Opening) where
         v : At
         v = record { run = t .run; last = some (record { of = c; made = e; replies = [] }) }
 
-        by : (b : Bool) → stance o t (change e) ≡ cond b takes (declines 15) → either b (Stands a (seen s .sizes) (some c) (stated.count s) (edit c e)) (Declines a s 15)
+        by : (b : Bool) → stance o t (change e) ≡ cond b takes (declines 15)
+            → either b (Stands a (seen s .sizes) (some c) (stated.count s) (edit c e)) (Declines a s 15)
             → Good o t s (record { call = change e; answer = a })
         by true g d =
             yes t s h _ v g (ap (λ (x : Taking). unlessDeclined x t (afterTaken o t (change e))) g ∙ ap (λ (x : Option Finished). withEdit t x e) f)
@@ -395,11 +422,13 @@ module _ (o : Opening) where
 
 walk-1 : (o : Opening) (t : At) (a : Answer) (cs : List Made) → Inv o t (a .session) → Chained a cs → Throughout (EndsProperly o) o t (a .session) cs
 walk-1 o t a [] h m = tt
-walk-1 o t a (c ∷ cs) h m = let g = step o t (a .session) h (c .call) (c .answer) (m .0) in (g .proper, walk-1 o (afterCall o t (c .call)) (c .answer) cs (g .inv) (m .1))
+walk-1 o t a (c ∷ cs) h m = let g = step o t (a .session) h (c .call) (c .answer) (m .0) in
+    (g .proper, walk-1 o (afterCall o t (c .call)) (c .answer) cs (g .inv) (m .1))
 
 walk-2 : (o : Opening) (t : At) (a : Answer) (cs : List Made) → Inv o t (a .session) → Chained a cs → Throughout (AsDefined o) o t (a .session) cs
 walk-2 o t a [] h m = tt
-walk-2 o t a (c ∷ cs) h m = let g = step o t (a .session) h (c .call) (c .answer) (m .0) in (g .defined, walk-2 o (afterCall o t (c .call)) (c .answer) cs (g .inv) (m .1))
+walk-2 o t a (c ∷ cs) h m = let g = step o t (a .session) h (c .call) (c .answer) (m .0) in
+    (g .defined, walk-2 o (afterCall o t (c .call)) (c .answer) cs (g .inv) (m .1))
 
 pub demand-1 : Demand1
 demand-1 o a m cs ch = (opens-properly o a m, walk-1 o first a cs (begins o a m) ch)
@@ -411,10 +440,12 @@ demand-2 o a m cs ch = (opens-as-defined o a m, walk-2 o first a cs (begins o a 
 
 module _ (σ : Solver) (o : Opening) where
   -- what holds of what is due holds of what was said, read as the session shows it
-  reads-end : (f : _) (before : Option Report) (x y : Step) (s : Session) (r : Option Report) → y ≡ x → ReadsAs s r → Ends f before x (λ p. r ≡ p) → Ends f before y (ReadsAs s)
+  reads-end : (f : _) (before : Option Report) (x y : Step) (s : Session) (r : Option Report) → y ≡ x → ReadsAs s r → Ends f before x (λ p. r ≡ p)
+      → Ends f before y (ReadsAs s)
   reads-end f before x y s r e d h = record { says = e ∙ h .says; reads = subst (ReadsAs s) (h .reads) d }
 
-  holds-said : (u : Trail) (c : Made) (x : Step) (r : Option Report) → c .answer .step ≡ x → ReadsAs (c .answer .session) r → Holds σ o u (c .call) x (λ p. r ≡ p)
+  holds-said : (u : Trail) (c : Made) (x : Step) (r : Option Report) → c .answer .step ≡ x → ReadsAs (c .answer .session) r
+      → Holds σ o u (c .call) x (λ p. r ≡ p)
       → Holds σ o u (c .call) (c .answer .step) (ReadsAs (c .answer .session))
   holds-said u c x r e d h =
       let Q : Step → Type 0 = λ y. Holds σ o u (c .call) y (ReadsAs (c .answer .session)) in
@@ -432,7 +463,8 @@ module _ (σ : Solver) (o : Opening) where
   abbrev Before : At → Session → Type 0
   Before t old = (x : Editing) → t .last ≡ some x → ReadsAs old (some (reportOf (x .of)))
 
-  reply-before : (rs : List Reply) (last : Option Editing) (r : Reply) (old : Session) → Before (record { run = rs; last = last }) old → Before (withReply rs last r) old
+  reply-before : (rs : List Reply) (last : Option Editing) (r : Reply) (old : Session) → Before (record { run = rs; last = last }) old
+      → Before (withReply rs last r) old
   reply-before rs none r old b x e = let z : _≡_ {A = ℕ} 0 1 = cc in absurd (omega arith)
   reply-before rs (some y) r old b x e =
       let same : y .of ≡ x .of = ap (λ (z : Option Editing). ofOr (y .of) z) e in
@@ -450,7 +482,8 @@ module _ (σ : Solver) (o : Opening) where
   taken-before t old s h b refusePoint e = reply-before (t .run) (t .last) _ old b
   taken-before t old s h b (change f) e = edit-before t s h f (finishedAt o t) refl e
 
-  next-before : (t : At) (u : Trail) (old s : Session) (x : Call) → Inv o t s → Agrees σ o t u → Before t old → Before (afterCall o t x) (beforeEdit σ o u old s x)
+  next-before : (t : At) (u : Trail) (old s : Session) (x : Call) → Inv o t s → Agrees σ o t u → Before t old
+      → Before (afterCall o t x) (beforeEdit σ o u old s x)
   next-before t u old s x h g b =
       subst (λ (z : Taking). Before (afterCall o t x) (unlessDeclined z old (editedFrom old s x))) (sym (agrees-ruled σ o t u g x)) (by (stance o t x) refl)
     where
@@ -458,11 +491,13 @@ module _ (σ : Solver) (o : Opening) where
       by (declines n) e = b
       by takes e = taken-before t old s h b x e
 
-  kept-before : (s : Session) (was : Finished) (l : Option Editing) → ((x : Editing) → l ≡ some x → ReadsAs s (some (reportOf (x .of)))) → keptBy l ≡ some was → ReadsAs s (some (reportOf was))
+  kept-before : (s : Session) (was : Finished) (l : Option Editing) → ((x : Editing) → l ≡ some x → ReadsAs s (some (reportOf (x .of)))) → keptBy l ≡ some was
+      → ReadsAs s (some (reportOf was))
   kept-before s was none b e = let z : _≡_ {A = ℕ} 0 1 = cc in absurd (omega arith)
   kept-before s was (some x) b e = let same : x .of ≡ was = cc in subst (λ (c : Finished). ReadsAs s (some (reportOf c))) same (b x refl)
 
-  walk-3 : (t : At) (u : Trail) (old : Session) (a : Answer) (cs : List Made) → Inv o t (a .session) → Agrees σ o t u → Before t old → Chained a cs → AllFrom σ o u cs
+  walk-3 : (t : At) (u : Trail) (old : Session) (a : Answer) (cs : List Made) → Inv o t (a .session) → Agrees σ o t u → Before t old → Chained a cs
+      → AllFrom σ o u cs
       → Along σ o u old (a .session) cs
   walk-3 t u old a [] h g b m f = tt
   walk-3 t u old a (c ∷ cs) h g b m f =
@@ -471,7 +506,8 @@ module _ (σ : Solver) (o : Opening) where
       let now = next-before t u old (a .session) (c .call) h g b in (
         record {
           declined = λ n e. k .proper .declined n (sym (agrees-ruled σ o t u g (c .call)) ∙ e);
-          holds = holds-said u c (dueTo o t (c .call)) (reportBy (finishedAt o (afterCall o t (c .call)))) says (k .defined .reads) (agrees-holds σ o t u g (c .call) (f .0));
+          holds = holds-said u c (dueTo o t (c .call)) (reportBy (finishedAt o (afterCall o t (c .call)))) says (k .defined .reads)
+              (agrees-holds σ o t u g (c .call) (f .0));
           changes = λ e i r z.
               let x = agrees-changes σ o t u g (c .call) (f .0) e i r (ap (heard o) (sym says) ∙ z) in
               record {
@@ -484,7 +520,8 @@ module _ (σ : Solver) (o : Opening) where
               };
         },
         walk-3 (afterCall o t (c .call)) (nextTrail σ o u c) (beforeEdit σ o u old (a .session) (c .call)) (c .answer) cs (k .inv)
-            (subst (λ (x : Step). Agrees σ o (afterCall o t (c .call)) (followed σ o u (c .call) x)) (sym says) (agrees-next σ o t u g (c .call) (f .0))) now (m .1) (f .1),
+            (subst (λ (x : Step). Agrees σ o (afterCall o t (c .call)) (followed σ o u (c .call) x)) (sym says) (agrees-next σ o t u g (c .call) (f .0))) now
+            (m .1) (f .1),
       )
 
 pub demand-3 : Demand3
@@ -511,11 +548,13 @@ module _ (σ : Solver) (o : Opening) where
       let k = step o t (a .session) h (c .call) (c .answer) (m .0) in
       let says = k .defined .says in
       let r = all-due (afterCall o t (c .call)) (followed σ o u (c .call) (dueTo o t (c .call))) (c .answer) cs (k .inv) (m .1) (d .1) in (
-        ap (λ (x : Step). example.brief x ∷ map (λ e. example.brief (e .answer .step)) cs) says ∙ ap (λ (l : List example.Brief). example.brief (dueTo o t (c .call)) ∷ l) (r .0),
+        ap (λ (x : Step). example.brief x ∷ map (λ e. example.brief (e .answer .step)) cs) says
+            ∙ ap (λ (l : List example.Brief). example.brief (dueTo o t (c .call)) ∷ l) (r .0),
         (d .0, subst (λ (x : Step). AllFrom σ o (followed σ o u (c .call) x) cs) (sym says) (r .1)),
       )
 
-  pub as-due : (a : Answer) → Opened o a → (cs : List Made) → Chained a cs → (xs : List Call) → map (λ c. c .call) cs ≡ xs → example.AllDue σ o first (begun o (head (whole o))) xs
+  pub as-due : (a : Answer) → Opened o a → (cs : List Made) → Chained a cs → (xs : List Call) → map (λ c. c .call) cs ≡ xs
+      → example.AllDue σ o first (begun o (head (whole o))) xs
       → (map (λ c. example.brief (c .answer .step)) cs ≡ example.told o first xs) × AllFrom σ o (begun o (a .step)) cs
   as-due a m cs ch xs e d =
       let r = all-due first (begun o (head (whole o))) a cs (begins o a m) ch (subst (example.AllDue σ o first (begun o (head (whole o)))) (sym e) d) in

@@ -5,8 +5,11 @@ use mathlib.Core.List.{map}
 use lib.Ieee.{round, add, sub, mul, div, lt, le, isNan, ofBits}
 use Rattle.numeric.specs.Numeric.{finite, absOf, maxOf}
 use Rattle.definition.specs.Fit.{gradientNormOf, flatOf, evaluated, iterate, fitMap}
-use Rattle.definition.specs.Likelihood.{chiSquareOf, withPriorOf, withPriorsOf, valued, objective, mvStepOf, bcStepOf, mvPlusAt, mvMinusAt, bcPlusAt, bcMinusAt, bcMinus, bcPlus, mvMinus, mvPlus, truingJacobianRows, complete, accumulateOf, sumsOf, withPriorGradientOf, fromSums, evaluate}
-use Rattle.definition.specs.Whole.{withinOf, positiveOf, soundObservationOf, soundPriorOf, soundRequestedOf, checkedPoint, checkedCount, checkedMeasured, checkedRequested, bandRows, baseline, concluded, banded, fitted, run, whole, editQuestions, edit}
+use Rattle.definition.specs.Likelihood.{chiSquareOf, withPriorOf, withPriorsOf, valued, objective, mvStepOf, bcStepOf, mvPlusAt, mvMinusAt, bcPlusAt, bcMinusAt}
+use Rattle.definition.specs.Likelihood.{bcMinus, bcPlus, mvMinus, mvPlus, truingJacobianRows, complete, accumulateOf, sumsOf, withPriorGradientOf, fromSums}
+use Rattle.definition.specs.Likelihood.{evaluate}
+use Rattle.definition.specs.Whole.{withinOf, positiveOf, soundObservationOf, soundPriorOf, soundRequestedOf, checkedPoint, checkedCount, checkedMeasured}
+use Rattle.definition.specs.Whole.{checkedRequested, bandRows, baseline, concluded, banded, fitted, run, whole, editQuestions, edit}
 use Rattle.fresh_outcome.specs.Solver.{fresh}
 use Rattle.demands.specs.Example.{solver, opening, callOf, all, Example, ExampleMet}
 use Rattle.demands.proofs.Demands.{as-due}

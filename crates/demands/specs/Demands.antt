@@ -1,4 +1,5 @@
--- The three demands over any list of calls on a session just opened, declined ones included. Stated over what a host sees: the answers, and what the calls that read
+-- The three demands over any list of calls on a session just opened, declined ones included. Stated over what a host sees: the answers, and what the calls that
+-- read
 -- a session give. Theorems `demand-1`, `demand-2` and `demand-3` stand in proofs/Demands.antt.
 use Prim.Native.Nat.{ℕ, suc, _≤_, _<_}
 use mathlib.Core.Path.{_≡_}
@@ -29,7 +30,8 @@ use Rattle.definition.specs.Session.{Opened, Replied, PointRefused, Edited}
 use Rattle.report.specs.Reading.{ReportRead, ResultRead, BaselineResultRead, BandRead}
 use Rattle.editing.specs.declared.Session.{Session}
 use Rattle.editing.specs.declared.Answer.{Answer}
-use Rattle.demands.specs.Calls.{Call, reply, refusePoint, change, Editing, At, first, restAt, finishedAt, reportBy, declines, takes, stance, unlessDeclined, afterCall, dueTo}
+use Rattle.demands.specs.Calls.{Call, reply, refusePoint, change, Editing, At, first, restAt, finishedAt, reportBy, declines, takes, stance}
+use Rattle.demands.specs.Calls.{unlessDeclined, afterCall, dueTo}
 use Rattle.demands.specs.Book.{heard, opened, ruled, Ends, Edits, standingReport, Holds, Trail, begun, followed, FromSolver}
 
 -- ---- the calls of a host
@@ -56,7 +58,8 @@ Throughout P o t s [] = Unit {0}
 Throughout P o t s (c ∷ cs) = P t s c × Throughout P o (afterCall o t (c .call)) (c .answer .session) cs
 
 abbrev pub Whatever : (Opening → Answer → Type 0) → (Opening → At → Session → Made → Type 0) → Type 0
-Whatever First P = (o : Opening) (a : Answer) → Opened seen o (a .step) (a .session) → (cs : List Made) → Chained a cs → First o a × Throughout (P o) o first (a .session) cs
+Whatever First P = (o : Opening) (a : Answer) → Opened seen o (a .step) (a .session) → (cs : List Made) → Chained a cs
+    → First o a × Throughout (P o) o first (a .session) cs
 
 -- what the calls that read this session give is this report, in its head and in each place of its lists, or that there is none
 pub record ReadsAs (s : Session) (p : Option Report) : Type 0 where
@@ -102,8 +105,10 @@ pub record EndsProperly (o : Opening) (t : At) (s : Session) (c : Made) : Type 0
   pub edit-limited : (x : Editing) → afterCall o t (c .call) .last ≡ some x → (mv bc : Float) (list : Distances) → c .answer .step ≡ Step.Question mv bc list
       → length (x .replies) < mostOf (x .made)
   -- an edit that is let through is of the report that stands, and one that ends in a refusal restores it
-  pub edits : (x : Editing) → stance o t (c .call) ≡ takes → c .call ≡ change (x .made) → afterCall o t (c .call) .last ≡ some x → ReadsAs s (some (reportOf (x .of)))
-  pub restored : (x : Editing) (n i : ℕ) → afterCall o t (c .call) .last ≡ some x → restAt o (afterCall o t (c .call)) ≡ refuse n i → ReadsAs (c .answer .session) (some (reportOf (x .of)))
+  pub edits : (x : Editing) → stance o t (c .call) ≡ takes → c .call ≡ change (x .made) → afterCall o t (c .call) .last ≡ some x
+      → ReadsAs s (some (reportOf (x .of)))
+  pub restored : (x : Editing) (n i : ℕ) → afterCall o t (c .call) .last ≡ some x → restAt o (afterCall o t (c .call)) ≡ refuse n i
+      → ReadsAs (c .answer .session) (some (reportOf (x .of)))
 
 -- Theorem `demand-1`.
 abbrev pub Demand1 : Type 0

@@ -90,7 +90,8 @@ three a b c = reply (number a ∷ number b ∷ number c ∷ []) (false ∷ false
 abbrev pub gap : Call
 gap = reply (zero64 ∷ []) (true ∷ [])
 
--- The run: one objective, five questions of the fit, five at the fit, five about the requested distances, and the baseline. In it an edit and a reply of one entry are
+-- The run: one objective, five questions of the fit, five at the fit, five about the requested distances, and the baseline. In it an edit and a reply of one
+-- entry are
 -- declined, and after it two replies and an edit beyond the list.
 abbrev pub run : List Line
 run =

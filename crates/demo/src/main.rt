@@ -1,4 +1,5 @@
-// A demonstration: fits a bundled lot of twelve shots over the demonstration solver, shows the request and the answer as lines of the protocol, and says in plain words
+// A demonstration: fits a bundled lot of twelve shots over the demonstration solver, shows the request and the answer as lines of the protocol, and says in
+// plain words
 // what they mean. It reads nothing.
 mod lot;
 mod meaning;

@@ -51,9 +51,11 @@ use Rattle.editing.specs.declared.Editing.{Editing}
 use Rattle.editing.specs.declared.Editing.the-variants.{Closed, Asks}
 use Rattle.editing.specs.declared.Session.{Session}
 use Rattle.editing.specs.declared.Answer.{Answer}
-use Rattle.editing.proofs.Laws.{state-closed, state-asks, reached, Fits, open-state, open-none, open-unfitted, no-point, Open, a-point, refused-stands, changed-stands, asks-stands, stands-same, stands-as, change-made}
+use Rattle.editing.proofs.Laws.{state-closed, state-asks, reached, Fits, open-state, open-none, open-unfitted, no-point, Open, a-point, refused-stands}
+use Rattle.editing.proofs.Laws.{changed-stands, asks-stands, stands-same, stands-as, change-made}
 use Rattle.definition.specs.Session.{Sizes, State, asking, either, over, rightLength, standing, wants}
-use Rattle.editing.proofs.Contracts.{Stands, Declines, entriesTaken, refusalTaken, editTaken, Opened, Replied, PointRefused, Edited, RunStands, RunDeclines, runEntriesTaken, runRefusalTaken, RunOpened, RunReplied, RunPointRefused}
+use Rattle.editing.proofs.Contracts.{Stands, Declines, entriesTaken, refusalTaken, editTaken, Opened, Replied, PointRefused, Edited, RunStands}
+use Rattle.editing.proofs.Contracts.{RunDeclines, runEntriesTaken, runRefusalTaken, RunOpened, RunReplied, RunPointRefused}
 
 -- ---- no edit is open: the call is the run's
 
@@ -142,7 +144,8 @@ module _ (s : Session) (x : OpenEdit) (asks : s .edit ≡ Asks x) where
 -- ---- an edit's reply
 
 module _ (s : Running) (x : OpenEdit) where
-  pub no-reply : (ds : List Float) (ms : List Bool) (a : Answer) → openPoint (fittedIn (run.state s)) (editOf (x .change)) ≡ none → Declines a (asksWith s x) 8 → Replied (asksWith s x) ds ms a
+  pub no-reply : (ds : List Float) (ms : List Bool) (a : Answer) → openPoint (fittedIn (run.state s)) (editOf (x .change)) ≡ none → Declines a (asksWith s x) 8
+      → Replied (asksWith s x) ds ms a
   no-reply ds ms a e d = record { is = subst (λ (t : State). entriesTaken t (asksWith s x) ds ms a) (sym (no-point (run.state s) x e)) d }
 
   pub no-refusal : (a : Answer) → openPoint (fittedIn (run.state s)) (editOf (x .change)) ≡ none → Declines a (asksWith s x) 8 → PointRefused (asksWith s x) a
@@ -152,19 +155,23 @@ module _ (s : Running) (x : OpenEdit) where
     here : Open (run.state s) x p
     here = a-point (run.state s) x p e
 
-    question : state (asksWith s x) ≡ asking (some (here .of)) (ask (pointAt (x .answered) (here .of .fit .point)) (new (rangeOf (x .change))) (reached (here .of) x))
+    question : state (asksWith s x) ≡ asking (some (here .of))
+        (ask (pointAt (x .answered) (here .of .fit .point)) (new (rangeOf (x .change))) (reached (here .of) x))
     question = ap (λ (t : State). openIn t x) (here .stands) ∙ open-state (here .of) x (here .fits)
 
-    pub wrong-number : (ds : List Float) (ms : List Bool) (a : Answer) → rightLength 1 ds ms ≡ false → Declines a (asksWith s x) 9 → Replied (asksWith s x) ds ms a
+    pub wrong-number : (ds : List Float) (ms : List Bool) (a : Answer) → rightLength 1 ds ms ≡ false → Declines a (asksWith s x) 9
+        → Replied (asksWith s x) ds ms a
     wrong-number ds ms a l d = record {
       is =
           subst (λ (t : State). entriesTaken t (asksWith s x) ds ms a) (sym question)
-          (subst (λ (b : Bool). either b (Stands a (sizesOf (s .body)) (some (here .of)) (s .asked) (reached (here .of) x (entries (entriesOf ds ms)))) (Declines a (asksWith s x) 9)) (sym l) d);
+          (subst (λ (b : Bool). either b (Stands a (sizesOf (s .body)) (some (here .of)) (s .asked) (reached (here .of) x (entries (entriesOf ds ms))))
+          (Declines a (asksWith s x) 9)) (sym l) d);
     }
 
     pub one-more : (ds : List Float) (ms : List Bool) (a : Answer) (one : OneRow) → rightLength 1 ds ms ≡ true
         → oneRows one ≡ laidRows (fiveRow (x .answered)) p (entriesOf ds ms) (oneRows (x .one))
-        → ((c : Finished) → run.state s ≡ standing c → c .fit .point ≡ p → Fits c (x .change) → Stands a (sizesOf (s .body)) (some c) (s .asked) (nextLeft c (x .change) (x .answered) p (oneRows one)))
+        → ((c : Finished) → run.state s ≡ standing c → c .fit .point ≡ p → Fits c (x .change)
+        → Stands a (sizesOf (s .body)) (some c) (s .asked) (nextLeft c (x .change) (x .answered) p (oneRows one)))
         → Replied (asksWith s x) ds ms a
     one-more ds ms a one l rows d =
         let c = here .of in
@@ -173,11 +180,13 @@ module _ (s : Running) (x : OpenEdit) where
         let lengths = right-lengths 1 ds ms l in
         let same : nextLeft c (x .change) k p (oneRows one) ≡ reached c x (entries (entriesOf ds ms)) =
         ap (nextLeft c (x .change) k p) (rows ∙ one-next k p ds ms (lengths .0) (lengths .1) (x .one))
-        ∙ ap (λ (q : Point). bind (stencilNext k q w (rowsNext k q (oneRows (x .one)) (readingOf (entriesOf ds ms)))) (endedWith c (editOf (x .change)))) (sym (here .point)) in
+        ∙ ap (λ (q : Point). bind (stencilNext k q w (rowsNext k q (oneRows (x .one)) (readingOf (entriesOf ds ms)))) (endedWith c (editOf (x .change))))
+        (sym (here .point)) in
         record {
           is =
               subst (λ (t : State). entriesTaken t (asksWith s x) ds ms a) (sym question)
-              (subst (λ (b : Bool). either b (Stands a (sizesOf (s .body)) (some c) (s .asked) (reached c x (entries (entriesOf ds ms)))) (Declines a (asksWith s x) 9)) (sym l)
+              (subst (λ (b : Bool). either b (Stands a (sizesOf (s .body)) (some c) (s .asked) (reached c x (entries (entriesOf ds ms))))
+              (Declines a (asksWith s x) 9)) (sym l)
               (stands-same (d c (here .stands) (here .point) (here .fits)) same));
         }
 
@@ -221,7 +230,8 @@ stood s p n e = by (s .edit) refl
     by Closed shut =
         let h = fitted-at (state s) p n e in
         record { of = h .0; stands = h .1; runs = sym (state-closed s shut) ∙ h .1; point = h .2; size = h .3 }
-    by (Asks x) asks = let z : _≡_ {A = Option (Point × ℕ)} none (some (p, n)) = open-fitted s x asks ∙ e in let z : _≡_ {A = ℕ} 0 1 = cc in absurd (omega arith)
+    by (Asks x) asks = let z : _≡_ {A = Option (Point × ℕ)} none (some (p, n)) = open-fitted s x asks
+        ∙ e in let z : _≡_ {A = ℕ} 0 1 = cc in absurd (omega arith)
 
 module _ (s : Session) (f : Fitted) (says : fittedSays f ≡ fittedIn (state s)) where
   pub none-edited : (e : Edit) (a : Answer) → f ≡ Unfitted → Declines a s 14 → Edited s e a
@@ -239,12 +249,14 @@ module _ (s : Session) (f : Fitted) (says : fittedSays f ≡ fittedIn (state s))
     c : Finished
     c = there .of
 
-    by-place : (e : Edit) (a : Answer) (b : Bool) → placed e n ≡ b → either b (Stands a (sizesOf (s .run .body)) (some c) (s .run .asked) (whole.edit c e)) (Declines a s 15) → Edited s e a
+    by-place : (e : Edit) (a : Answer) (b : Bool) → placed e n ≡ b
+        → either b (Stands a (sizesOf (s .run .body)) (some c) (s .run .asked) (whole.edit c e)) (Declines a s 15) → Edited s e a
     unfolding c
     by-place e a b q d = record {
       is =
           subst (λ (t : State). editTaken t s e a) (sym (there .stands))
-          (subst (λ (m : Bool). either m (Stands a (sizesOf (s .run .body)) (some (there .of)) (s .run .asked) (whole.edit (there .of) e)) (Declines a s 15)) (sym (ap (placed e) (there .size) ∙ q)) d);
+          (subst (λ (m : Bool). either m (Stands a (sizesOf (s .run .body)) (some (there .of)) (s .run .asked) (whole.edit (there .of) e)) (Declines a s 15))
+          (sym (ap (placed e) (there .size) ∙ q)) d);
     }
 
     -- 15
@@ -252,16 +264,20 @@ module _ (s : Session) (f : Fitted) (says : fittedSays f ≡ fittedIn (state s))
     not-placed e a q d = by-place e a false q d
 
     -- the edit ends at once with a refusal
-    ends-refused : (e : Edit) (a : Answer) (number place : ℕ) → placed e n ≡ true → whole.edit (there .of) e ≡ refuse number place → a ≡ closedWith (s .run) (Refused number place) → Edited s e a
+    ends-refused : (e : Edit) (a : Answer) (number place : ℕ) → placed e n ≡ true → whole.edit (there .of) e ≡ refuse number place
+        → a ≡ closedWith (s .run) (Refused number place) → Edited s e a
     unfolding c
-    ends-refused e a number place q t d = by-place e a true q (stands-as d (stands-same (refused-stands (s .run) (there .of) (there .runs) number place) (sym t)))
+    ends-refused e a number place q t d = by-place e a true q
+        (stands-as d (stands-same (refused-stands (s .run) (there .of) (there .runs) number place) (sym t)))
 
     -- 6
-    pub no-room : (place : ℕ) (d : Requested) (a : Answer) → placed (putIn place d) n ≡ true → 64 ≤ n → a ≡ closedWith (s .run) (Refused 6 0) → Edited s (putIn place d) a
+    pub no-room : (place : ℕ) (d : Requested) (a : Answer) → placed (putIn place d) n ≡ true → 64 ≤ n → a ≡ closedWith (s .run) (Refused 6 0)
+        → Edited s (putIn place d) a
     unfolding whole.edit
     no-room place d a q h r =
         ends-refused (putIn place d) a 6 0 q
-        (ap (λ (b : Bool). bind (require b 6 0) (λ u. bind (require (soundRequestedOf d) 7 place) (λ v. whole.editQuestions (there .of) (putIn place d) place d)))
+        (ap (λ (b : Bool). bind (require b 6 0) (λ u. bind (require (soundRequestedOf d) 7 place)
+        (λ v. whole.editQuestions (there .of) (putIn place d) place d)))
         (ap (λ (m : ℕ). ltb m 64) (there .size) ∙ le-ltb n 64 h))
         r
 
@@ -270,7 +286,8 @@ module _ (s : Session) (f : Fitted) (says : fittedSays f ≡ fittedIn (state s))
         → whole.edit (there .of) (putIn place d) ≡ bind (require b 7 place) (λ v. whole.editQuestions (there .of) (putIn place d) place d)
     unfolding whole.edit
     put-sound place d h b e =
-        ap (λ (t : Bool). bind (require t 6 0) (λ u. bind (require (soundRequestedOf d) 7 place) (λ v. whole.editQuestions (there .of) (putIn place d) place d)))
+        ap (λ (t : Bool). bind (require t 6 0) (λ u. bind (require (soundRequestedOf d) 7 place)
+        (λ v. whole.editQuestions (there .of) (putIn place d) place d)))
         (ap (λ (m : ℕ). ltb m 64) (there .size) ∙ lt-ltb n 64 h)
         ∙ ap (λ (t : Bool). bind (require t 7 place) (λ v. whole.editQuestions (there .of) (putIn place d) place d)) e
 
@@ -279,27 +296,32 @@ module _ (s : Session) (f : Fitted) (says : fittedSays f ≡ fittedIn (state s))
     unfolding whole.edit
     exchange-sound place d b e = ap (λ (t : Bool). bind (require t 7 place) (λ v. whole.editQuestions (there .of) (exchange place d) place d)) e
 
-    pub faulty-put : (place : ℕ) (d : Requested) (a : Answer) → placed (putIn place d) n ≡ true → n < 64 → soundRequestedOf d ≡ false → a ≡ closedWith (s .run) (Refused 7 place)
+    pub faulty-put : (place : ℕ) (d : Requested) (a : Answer) → placed (putIn place d) n ≡ true → n < 64 → soundRequestedOf d ≡ false
+        → a ≡ closedWith (s .run) (Refused 7 place)
         → Edited s (putIn place d) a
     faulty-put place d a q h e r = ends-refused (putIn place d) a 7 place q (put-sound place d h false e) r
 
-    pub faulty-exchange : (place : ℕ) (d : Requested) (a : Answer) → placed (exchange place d) n ≡ true → soundRequestedOf d ≡ false → a ≡ closedWith (s .run) (Refused 7 place)
+    pub faulty-exchange : (place : ℕ) (d : Requested) (a : Answer) → placed (exchange place d) n ≡ true → soundRequestedOf d ≡ false
+        → a ≡ closedWith (s .run) (Refused 7 place)
         → Edited s (exchange place d) a
     faulty-exchange place d a q e r = ends-refused (exchange place d) a 7 place q (exchange-sound place d false e) r
 
     -- the first question about the new distance
-    begins : (e : Edit) (change : Change) (a : Answer) → placed e n ≡ true → opens (editOf change) n ≡ true → editLeft (there .of) change 0 (oneRows (newly change .one)) ≡ whole.edit (there .of) e
+    begins : (e : Edit) (change : Change) (a : Answer) → placed e n ≡ true → opens (editOf change) n ≡ true
+        → editLeft (there .of) change 0 (oneRows (newly change .one)) ≡ whole.edit (there .of) e
         → a ≡ askedAt (s .run) (newly change) p → Edited s e a
     unfolding c
     begins e change a q f t d =
         by-place e a true q
-        (stands-as d (stands-same (asks-stands (s .run) (there .of) (there .runs) (newly change) p (ap (opens (editOf change)) (there .size) ∙ f) (sym (there .point))) t))
+        (stands-as d (stands-same (asks-stands (s .run) (there .of) (there .runs) (newly change) p (ap (opens (editOf change)) (there .size) ∙ f)
+        (sym (there .point))) t))
 
     both : (a b : Bool) → a ≡ true → b ≡ true → (a && b) ≡ true
     both a b e g = ap (λ (x : Bool). x && b) e ∙ g
 
     -- the new entry in the session is the one that was given
-    as-given : (range : Float) (sigma : Number) → soundRequestedOf (requestedOf range sigma) ≡ true → requestedAt range (storedSigma sigma) ≡ requestedOf range sigma
+    as-given : (range : Float) (sigma : Number) → soundRequestedOf (requestedOf range sigma) ≡ true
+        → requestedAt range (storedSigma sigma) ≡ requestedOf range sigma
     as-given range sigma e = ap (λ (x : Option Float). record { range = range; sigma = x }) (stored-number range sigma e)
 
     pub begins-put : (place : ℕ) (range : Float) (sigma : Number) (x : Float) (a : Answer) → x ≡ storedSigma sigma
@@ -310,7 +332,8 @@ module _ (s : Session) (f : Fitted) (says : fittedSays f ≡ fittedIn (state s))
         let c = there .of in
         let w = requestedOf range sigma in
         begins (putIn place w) (PutIn place range x) a q (both (placed (putIn place w) n) (ltb n 64 && true) q (both (ltb n 64) true (lt-ltb n 64 h) refl))
-        (ap (λ (y : Requested). whole.editQuestions c (putIn place y) place y) (ap (requestedAt range) ex ∙ as-given range sigma e) ∙ sym (put-sound place w h true e))
+        (ap (λ (y : Requested). whole.editQuestions c (putIn place y) place y) (ap (requestedAt range) ex ∙ as-given range sigma e)
+        ∙ sym (put-sound place w h true e))
         d
 
     pub begins-exchange : (place : ℕ) (range : Float) (sigma : Number) (x : Float) (a : Answer) → x ≡ storedSigma sigma
@@ -321,11 +344,13 @@ module _ (s : Session) (f : Fitted) (says : fittedSays f ≡ fittedIn (state s))
         let c = there .of in
         let w = requestedOf range sigma in
         begins (exchange place w) (Exchange place range x) a q (both (placed (exchange place w) n) (true && true) q refl)
-        (ap (λ (y : Requested). whole.editQuestions c (exchange place y) place y) (ap (requestedAt range) ex ∙ as-given range sigma e) ∙ sym (exchange-sound place w true e))
+        (ap (λ (y : Requested). whole.editQuestions c (exchange place y) place y) (ap (requestedAt range) ex ∙ as-given range sigma e)
+        ∙ sym (exchange-sound place w true e))
         d
 
     -- taking out
-    pub taken-out : (place : ℕ) (rows : Rows) (r : Running) (a : Answer) → placed (takeOut place) n ≡ true → Changed (s .run) (takeOut place) rows r → a ≡ closedWith r Report → Edited s (takeOut place) a
+    pub taken-out : (place : ℕ) (rows : Rows) (r : Running) (a : Answer) → placed (takeOut place) n ≡ true → Changed (s .run) (takeOut place) rows r
+        → a ≡ closedWith r Report → Edited s (takeOut place) a
     unfolding c whole.edit
     taken-out place rows r a q d e =
         by-place (takeOut place) a true q

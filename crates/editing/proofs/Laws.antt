@@ -49,7 +49,8 @@ reached c x reply =
     let k = x .answered in
     bind (bind (answered reply) (λ d. stencilNext k p (new (rangeOf (x .change))) (rowsNext k p (oneRows (x .one)) d))) (endedWith c (editOf (x .change)))
 
-edit-asks : (c : Finished) (x : OpenEdit) → editLeft c (x .change) (x .answered) (oneRows (x .one)) ≡ ask (pointAt (x .answered) (c .fit .point)) (new (rangeOf (x .change))) (reached c x)
+edit-asks : (c : Finished) (x : OpenEdit) → editLeft c (x .change) (x .answered) (oneRows (x .one)) ≡ ask (pointAt (x .answered) (c .fit .point))
+    (new (rangeOf (x .change))) (reached c x)
 edit-asks c x =
     ap (λ (t : Run Rows). bind t (endedWith c (editOf (x .change)))) (stencil-asks (x .answered) (c .fit .point) (new (rangeOf (x .change))) (oneRows (x .one)))
 
@@ -137,7 +138,8 @@ module _ (s : Running) (c : Finished) (at : run.state s ≡ standing c) where
   refused-stands n i = record { leads = at; says = refl; counts = refl; sized = tt }
 
   -- it ends with its change made
-  pub changed-stands : (r : Running) (d : Finished) → (run.state r ≡ standing d) × (r .asked ≡ s .asked) → Stands (closedWith r Report) (sizesOf (s .body)) (some c) (s .asked) (done d)
+  pub changed-stands : (r : Running) (d : Finished) → (run.state r ≡ standing d) × (r .asked ≡ s .asked)
+      → Stands (closedWith r Report) (sizesOf (s .body)) (some c) (s .asked) (done d)
   changed-stands r d h = record { leads = h .0; says = refl; counts = h .1; sized = tt }
 
   -- it has a question open
@@ -160,7 +162,8 @@ pub stands-as : {r a : Answer} {z : Sizes} {kept : Option Finished} {n : ℕ} {t
 stands-as {r} {a} {z} {kept} {n} {t} e s = subst (λ (x : Answer). Stands x z kept n t) (sym e) s
 
 -- the change fits its list: it is made
-pub change-made : (s r : Running) (c : Finished) (e : Edit) (one : Rows) → run.state s ≡ standing c → placed e (length (c .requested)) ≡ true → roomy e (length (c .requested)) ≡ true
+pub change-made : (s r : Running) (c : Finished) (e : Edit) (one : Rows) → run.state s ≡ standing c → placed e (length (c .requested)) ≡ true
+    → roomy e (length (c .requested)) ≡ true
     → Changed s e one r → (run.state r ≡ standing (renewed c e one)) × (r .asked ≡ s .asked)
 change-made s r c e one at p m d =
     let A = (run.state r ≡ standing (renewed c e one)) × (r .asked ≡ s .asked) in
@@ -168,7 +171,8 @@ change-made s r c e one at p m d =
     subst (λ (b : Bool). either b A (r ≡ s)) (ap (λ (b : Bool). b && roomy e (length (c .requested))) p ∙ m) h
 
 -- after the k-th reply about the new distance
-module _ (s : Running) (change : Change) (k : ℕ) (p : Point) (one : OneRow) (c : Finished) (at : run.state s ≡ standing c) (point : c .fit .point ≡ p) (f : Fits c change) where
+module _ (s : Running) (change : Change) (k : ℕ) (p : Point) (one : OneRow) (c : Finished) (at : run.state s ≡ standing c) (point : c .fit .point ≡ p)
+    (f : Fits c change) where
   abbrev e : Edit
   e = editOf change
 
@@ -188,14 +192,17 @@ module _ (s : Running) (change : Change) (k : ℕ) (p : Point) (one : OneRow) (c
   last : 4 ≤ k → rest ≡ endedWith c e (oneRows one)
   last h = ap (λ (t : Run Rows). bind t (endedWith c e)) (last-of k p (new (rangeOf change)) (oneRows one) h)
 
-  pub reply-gap : (place : ℕ) → 4 ≤ k → (one .gap ≡ 0 → ⊥) → place ≡ placeOf (editOf change) → Stands (closedWith s (Refused 13 place)) (sizesOf (s .body)) (some c) (s .asked) rest
+  pub reply-gap : (place : ℕ) → 4 ≤ k → (one .gap ≡ 0 → ⊥) → place ≡ placeOf (editOf change)
+      → Stands (closedWith s (Refused 13 place)) (sizesOf (s .body)) (some c) (s .asked) rest
   reply-gap place h g ep = stands-same (refused-stands s c at 13 place) (ap (refuse 13) ep ∙ gap (one .gap) g ∙ sym (last h))
     where
-      gap : (n : ℕ) → (n ≡ 0 → ⊥) → refuse 13 (placeOf (editOf change)) ≡ bind (unlessMissing n (placeOf (editOf change))) (λ u. done (renewed c (editOf change) (oneRows one)))
+      gap : (n : ℕ) → (n ≡ 0 → ⊥) → refuse 13 (placeOf (editOf change)) ≡ bind (unlessMissing n (placeOf (editOf change)))
+          (λ u. done (renewed c (editOf change) (oneRows one)))
       gap zero z = absurd (z refl)
       gap (suc n) z = refl
 
-  pub reply-whole : (r : Running) → 4 ≤ k → one .gap ≡ 0 → Changed s (editOf change) (rowsFrom (rowFrom one)) r → Stands (closedWith r Report) (sizesOf (s .body)) (some c) (s .asked) rest
+  pub reply-whole : (r : Running) → 4 ≤ k → one .gap ≡ 0 → Changed s (editOf change) (rowsFrom (rowFrom one)) r
+      → Stands (closedWith r Report) (sizesOf (s .body)) (some c) (s .asked) rest
   reply-whole r h g d =
       let n = length (c .requested) in
       let a = and-both (placed (editOf change) n) (roomy (editOf change) n && puts (editOf change)) f in

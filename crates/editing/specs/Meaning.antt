@@ -57,7 +57,8 @@ editLeft c x k one = bind (stencil k (c .fit .point) (new (rangeOf x)) one) (end
 -- an edit that no call opened is over
 abbrev pub openIn : State → OpenEdit → State
 openIn (asking kept t) x = over
-openIn (standing c) x = cond (opens (editOf (x .change)) (length (c .requested))) (after (some c) (editLeft c (x .change) (x .answered) (oneRows (x .one)))) over
+openIn (standing c) x = cond (opens (editOf (x .change)) (length (c .requested)))
+    (after (some c) (editLeft c (x .change) (x .answered) (oneRows (x .one)))) over
 openIn over x = over
 
 abbrev pub stateBy : Running → Editing → State

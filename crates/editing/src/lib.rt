@@ -27,7 +27,8 @@ ghost use Rattle.report.specs.Reading.{ReportRead, ResultRead, BaselineResultRe
 ghost use Rattle.session.specs.Meaning as running;
 ghost use Rattle.session.specs.Meaning.{sizesOf};
 ghost use Rattle.session.specs.Changing.{fittedIn, fittedSays};
-ghost use Rattle.editing.specs.Meaning.{placeOf, puts, opens, state, seen, ofRun, closedWith, asksWith, askedAt, newly, openPoint, pointSays, rowFrom, nextLeft};
+ghost use Rattle.editing.specs.Meaning.{placeOf, puts, opens, state, seen, ofRun, closedWith, asksWith, askedAt, newly, openPoint, pointSays, rowFrom};
+ghost use Rattle.editing.specs.Meaning.{nextLeft};
 
 // No run puts more questions (`limited` of demand 1): enough for a host that counts them.
 pub const MAX_QUESTIONS: usize = 4_546;

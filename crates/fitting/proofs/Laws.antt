@@ -23,7 +23,8 @@ use Rattle.criteria.specs.Criteria.{materialOf}
 use Rattle.objective_mesh.specs.Meaning.{passOf, pollOf, seenWithin}
 use Rattle.objective_mesh.specs.declared.Pass.{Pass}
 use Rattle.objective_mesh.specs.declared.Poll.{Poll}
-use Rattle.fitting.specs.Meaning.{iterationsOf, leftOf, onward, trialsLeft, afterTrials, afterPoll, afterRows, afterTrial, afterLook, restOf, foundAt, flatAt, iterationAt, candidateAt, polledAt, pollAt}
+use Rattle.fitting.specs.Meaning.{iterationsOf, leftOf, onward, trialsLeft, afterTrials, afterPoll, afterRows, afterTrial, afterLook, restOf, foundAt}
+use Rattle.fitting.specs.Meaning.{flatAt, iterationAt, candidateAt, polledAt, pollAt}
 use Rattle.fitting.specs.declared.Progress.{Progress}
 use Rattle.fitting.specs.declared.Stage.the-variants as Stage
 use Rattle.fitting.specs.declared.Wait.the-variants as Wait
@@ -77,9 +78,12 @@ some-left g m ds l zero n e h w = absurd (omega arith)
 some-left g m ds l (suc k) n e h w =
     let d : 100 - (100 - l) ≡ k = omega arith in
     let q : 100 - l ≡ suc n = omega arith in
-    ap (λ (j : ℕ). bind (likelihood.evaluate (g .point)) (λ rows. bind (fit.evaluated m (λ p v w. fit.iterate m j p v w (100 - l)) (g .point) (g .current) (g .damping) (100 - l) rows) (whole.fitted m ds))) d
-    ∙ ap (λ (j : ℕ). bind (likelihood.evaluate (g .point)) (λ rows. bind (fit.evaluated m (λ p v w. fit.iterate m k p v w j) (g .point) (g .current) (g .damping) j rows) (whole.fitted m ds))) q
-    ∙ sym (bind-assoc (likelihood.evaluate (g .point)) (fit.evaluated m (λ p v w. fit.iterate m k p v w (suc n)) (g .point) (g .current) (g .damping) (suc n)) (whole.fitted m ds))
+    ap (λ (j : ℕ). bind (likelihood.evaluate (g .point)) (λ rows. bind
+    (fit.evaluated m (λ p v w. fit.iterate m j p v w (100 - l)) (g .point) (g .current) (g .damping) (100 - l) rows) (whole.fitted m ds))) d
+    ∙ ap (λ (j : ℕ). bind (likelihood.evaluate (g .point)) (λ rows. bind
+    (fit.evaluated m (λ p v w. fit.iterate m k p v w j) (g .point) (g .current) (g .damping) j rows) (whole.fitted m ds))) q
+    ∙ sym (bind-assoc (likelihood.evaluate (g .point)) (fit.evaluated m (λ p v w. fit.iterate m k p v w (suc n)) (g .point) (g .current) (g .damping) (suc n))
+    (whole.fitted m ds))
 
 pub another-iteration : (g : Progress) (left : ℕ) (m : Measured) (ds : List Requested) → (g .left ≡ 0 → ⊥) → left ≡ leftOf g
     → restOf m ds (withLeft g (left - 1)) (Wait.Evaluation Stage.Iteration) ≡ iterationAt g m ds
@@ -104,14 +108,16 @@ withTrial g trials damping = record {
 
 -- what is left, by the next candidate
 trials-by : (g : Progress) (m : Measured) (ds : List Requested)
-    → candidateAt g m ds ≡ bind (goesOn m (g .point) (g .current) (g .evaluation) (nextTrialOf (g .point) (g .evaluation) (g .trials) (g .damping))) (afterTrials m ds g)
+    → candidateAt g m ds ≡ bind (goesOn m (g .point) (g .current) (g .evaluation) (nextTrialOf (g .point) (g .evaluation) (g .trials) (g .damping)))
+    (afterTrials m ds g)
 trials-by g m ds = ap (λ (t : Run fit.Trial). bind t (afterTrials m ds g)) (trials-next m (g .point) (g .current) (g .evaluation) (g .trials) (g .damping))
 
 pub candidate-next : (g : Progress) (q : Point) (left : ℕ) (damping : Float) (m : Measured) (ds : List Requested)
     → Candidate q left damping ≡ nextTrialOf (g .point) (g .evaluation) (g .trials) (g .damping)
     → restOf m ds (withTrial g left damping) (Wait.Trial q) ≡ candidateAt g m ds
 candidate-next g q left damping m ds e =
-    sym (bind-assoc (likelihood.objective m q) (fit.tried m (g .point) (g .current) (g .evaluation) (fit.trials m (g .point) (g .current) (g .evaluation) left) damping q) (afterTrials m ds g))
+    sym (bind-assoc (likelihood.objective m q) (fit.tried m (g .point) (g .current) (g .evaluation)
+    (fit.trials m (g .point) (g .current) (g .evaluation) left) damping q) (afterTrials m ds g))
     ∙ ap (λ t. bind (goesOn m (g .point) (g .current) (g .evaluation) t) (afterTrials m ds g)) e
     ∙ sym (trials-by g m ds)
 
@@ -167,7 +173,8 @@ turn-by g m ds t h e =
     ap (λ (x : mesh.PollStep). bind (mesh.onPollStep m (mesh.poll m (1023 - g .pass .evaluations)) x) (afterPoll m ds g)) e
     ∙ ap (λ (x : Run mesh.Poll). bind x (afterPoll m ds g)) (sym (poll-goes-on m (g .pass .evaluations) (passOf (g .pass)) h))
 
-pub poll-ended : (g : Progress) (r : Poll) (m : Measured) (ds : List Requested) → g .pass .evaluations < 1024 → mesh.ended (pollOf r) ≡ mesh.pollStep (passOf (g .pass))
+pub poll-ended : (g : Progress) (r : Poll) (m : Measured) (ds : List Requested) → g .pass .evaluations < 1024
+    → mesh.ended (pollOf r) ≡ mesh.pollStep (passOf (g .pass))
     → polledAt g r m ds ≡ pollAt g m ds
 poll-ended g r m ds h e = turn-by g m ds (mesh.ended (pollOf r)) h e
 
@@ -177,7 +184,8 @@ pub poll-looks : (g : Progress) (c : Point) (s : Pass) (m : Measured) (ds : List
 poll-looks g c s m ds h e =
     let same : s .evaluations ≡ g .pass .evaluations = ap evaluationsOf e ∙ turn-same (passOf (g .pass)) in
     let left : s .evaluations < 1024 = omega arith in
-    ap (λ (b : Bool). bind (likelihood.objective m c) (λ v. bind (mesh.poll m (1023 - s .evaluations) (cond b (mesh.seen c v (passOf s)) (passOf s))) (afterPoll m ds g))) (lt-ltb (s .evaluations) 1024 left)
+    ap (λ (b : Bool). bind (likelihood.objective m c) (λ v. bind (mesh.poll m (1023 - s .evaluations) (cond b (mesh.seen c v (passOf s)) (passOf s)))
+    (afterPoll m ds g))) (lt-ltb (s .evaluations) 1024 left)
     ∙ ap (λ (n : ℕ). bind (likelihood.objective m c) (λ v. bind (mesh.poll m (1023 - n) (mesh.seen c v (passOf s))) (afterPoll m ds g))) same
     ∙ sym (bind-assoc (likelihood.objective m c) (λ v. mesh.poll m (1023 - g .pass .evaluations) (mesh.seen c v (passOf s))) (afterPoll m ds g))
     ∙ turn-by g m ds (mesh.evaluates c (passOf s)) h e
@@ -214,11 +222,13 @@ module _ (g : Progress) (e : Evaluation) (m : Measured) (ds : List Requested) (r
 
   pub iteration-trials : fit.flatOf e ≡ false → candidateAt (withTrials g e) m ds ≡ afterRows m ds g Stage.Iteration rows
   iteration-trials t =
-      sym (bind-assoc (fit.trials m (g .point) (g .current) e 30 (g .damping)) (fit.onTrial m (onward m ds g) (fit.verify m (g .point) (g .current) (iterationsOf g))) (whole.fitted m ds))
+      sym (bind-assoc (fit.trials m (g .point) (g .current) e 30 (g .damping))
+      (fit.onTrial m (onward m ds g) (fit.verify m (g .point) (g .current) (iterationsOf g))) (whole.fitted m ds))
       ∙ ap (λ (t : Run fit.Fit). bind t (whole.fitted m ds)) (sym (evaluated-by t))
 
   verified-by : fit.flatOf e ≡ false
-      → fit.verified m (g .point) (g .current) (iterationsOf g) rows ≡ bind (likelihood.evaluate (g .point)) (fit.meshed m (g .point) (g .current) (iterationsOf g))
+      → fit.verified m (g .point) (g .current) (iterationsOf g) rows ≡ bind (likelihood.evaluate (g .point))
+      (fit.meshed m (g .point) (g .current) (iterationsOf g))
   unfolding fit.verified
   verified-by t = simp (q, t)
 
@@ -232,12 +242,14 @@ module _ (g : Progress) (e : Evaluation) (m : Measured) (ds : List Requested) (r
   unfolding fit.meshed
   meshed-by = simp q
 
-  pub mesh-poll : (s : Pass) → passOf s ≡ mesh.firstPass (e .«posterior_information») (g .point) (g .current) → pollAt (withPass g s) m ds ≡ afterRows m ds g Stage.Mesh rows
+  pub mesh-poll : (s : Pass) → passOf s ≡ mesh.firstPass (e .«posterior_information») (g .point) (g .current)
+      → pollAt (withPass g s) m ds ≡ afterRows m ds g Stage.Mesh rows
   mesh-poll s d =
       let none : s .evaluations ≡ 0 = ap (λ (x : mesh.Pass). x .evaluations) d in
       ap (λ (n : ℕ). bind (mesh.poll m (1024 - n) (passOf s)) (afterPoll m ds g)) none
       ∙ ap (λ (x : mesh.Pass). bind (mesh.poll m 1024 x) (afterPoll m ds g)) d
-      ∙ sym (bind-assoc (mesh.poll m 1024 (mesh.firstPass (e .«posterior_information») (g .point) (g .current))) (λ r. done (fit.polled (iterationsOf g) r)) (whole.fitted m ds))
+      ∙ sym (bind-assoc (mesh.poll m 1024 (mesh.firstPass (e .«posterior_information») (g .point) (g .current))) (λ r. done (fit.polled (iterationsOf g) r))
+      (whole.fitted m ds))
       ∙ ap (λ (t : Run fit.Fit). bind t (whole.fitted m ds)) (sym meshed-by)
 
 -- ---- what follows an objective
@@ -255,17 +267,21 @@ withPoint g p current damping = record {
   evaluations = g .evaluations;
 }
 
-pub trial-accepted : (g : Progress) (q : Point) (v damping : Float) (m : Measured) (ds : List Requested) → materialOf (g .current) v ≡ true → damping ≡ fit.loweredOf (g .damping)
+pub trial-accepted : (g : Progress) (q : Point) (v damping : Float) (m : Measured) (ds : List Requested) → materialOf (g .current) v ≡ true
+    → damping ≡ fit.loweredOf (g .damping)
     → iterationAt (withPoint g q v damping) m ds ≡ afterTrial m ds g q v
 trial-accepted g q v damping m ds t e =
     ap (λ (d : Float). bind (fit.iterate m (leftOf g) q v d (iterationsOf g)) (whole.fitted m ds)) e
-    ∙ ap (λ (b : Bool). bind (cond b (done (fit.accepted q v (fit.loweredOf (g .damping)))) (trialsLeft m ds g (g .trials) (fit.raised (g .damping)))) (afterTrials m ds g)) (sym t)
+    ∙ ap (λ (b : Bool). bind (cond b (done (fit.accepted q v (fit.loweredOf (g .damping)))) (trialsLeft m ds g (g .trials) (fit.raised (g .damping))))
+    (afterTrials m ds g)) (sym t)
 
-pub trial-rejected : (g : Progress) (q : Point) (v damping : Float) (m : Measured) (ds : List Requested) → materialOf (g .current) v ≡ false → damping ≡ fit.raised (g .damping)
+pub trial-rejected : (g : Progress) (q : Point) (v damping : Float) (m : Measured) (ds : List Requested) → materialOf (g .current) v ≡ false
+    → damping ≡ fit.raised (g .damping)
     → candidateAt (withTrial g (g .trials) damping) m ds ≡ afterTrial m ds g q v
 trial-rejected g q v damping m ds t e =
     ap (λ (d : Float). bind (trialsLeft m ds g (g .trials) d) (afterTrials m ds g)) e
-    ∙ ap (λ (b : Bool). bind (cond b (done (fit.accepted q v (fit.loweredOf (g .damping)))) (trialsLeft m ds g (g .trials) (fit.raised (g .damping)))) (afterTrials m ds g)) (sym t)
+    ∙ ap (λ (b : Bool). bind (cond b (done (fit.accepted q v (fit.loweredOf (g .damping)))) (trialsLeft m ds g (g .trials) (fit.raised (g .damping))))
+    (afterTrials m ds g)) (sym t)
 
 seen-more : (c : Point) (v : Float) (s : mesh.Pass) → mesh.seen c v s .evaluations ≡ suc (s .evaluations)
 unfolding mesh.seen
@@ -280,6 +296,7 @@ look-left c v s k false t e = let beyond = ltb-false (s .evaluations) 1024 t in 
 pub look-seen : (g : Progress) (c : Point) (v : Float) (s : Pass) (m : Measured) (ds : List Requested) → passOf s ≡ seenWithin c v (passOf (g .pass))
     → pollAt (withPass g s) m ds ≡ afterLook m ds g c v
 look-seen g c v s m ds e =
-    let count : 1024 - s .evaluations ≡ 1023 - g .pass .evaluations = look-left c v (passOf (g .pass)) (s .evaluations) (ltb (g .pass .evaluations) 1024) refl (ap (λ (x : mesh.Pass). x .evaluations) e) in
+    let count : 1024 - s .evaluations ≡ 1023 - g .pass .evaluations = look-left c v (passOf (g .pass)) (s .evaluations) (ltb (g .pass .evaluations) 1024) refl
+    (ap (λ (x : mesh.Pass). x .evaluations) e) in
     ap (λ (n : ℕ). bind (mesh.poll m n (passOf s)) (afterPoll m ds g)) count
     ∙ ap (λ (x : mesh.Pass). bind (mesh.poll m (1023 - g .pass .evaluations) x) (afterPoll m ds g)) e

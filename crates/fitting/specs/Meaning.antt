@@ -78,7 +78,8 @@ abbrev pub Continuation : Type 0
 Continuation = Measured → List Requested → Run Finished
 
 -- The answer to a step stands for this rest of the run, whatever was requested.
--- What of its numbers the rest does not read is free: a pass outside a poll, an evaluation and a count of trials outside the damping trials, a verification before the fit has ended.
+-- What of its numbers the rest does not read is free: a pass outside a poll, an evaluation and a count of trials outside the damping trials, a verification
+-- before the fit has ended.
 pub record Moves (r : Moved) (t : Continuation) : Type 0 where
   pub leads : (m : Measured) (ds : List Requested) → restOf m ds (r .progress) (r .wait) ≡ t m ds
 

@@ -8,7 +8,8 @@ use objective_mesh::Pass;
 use objective_mesh::Poll;
 use objective_mesh::PollStep;
 ghost use mathlib.Core.Path.{_≡_};
-ghost use Rattle.fitting.specs.Meaning.{leftOf, Moves, AfterRows, Blank, foundAt, flatAt, iterationAt, candidateAt, polledAt, pollAt, startAt, afterTrial, afterLook};
+ghost use Rattle.fitting.specs.Meaning.{leftOf, Moves, AfterRows, Blank, foundAt, flatAt, iterationAt, candidateAt, polledAt, pollAt, startAt};
+ghost use Rattle.fitting.specs.Meaning.{afterTrial, afterLook};
 ghost use Rattle.fitting.specs.declared.Stage.the-variants as StageOf;
 
 // How many iterations a fit has at the most, and how many damping trials each.

@@ -18,7 +18,8 @@ use Rattle.definition.specs.Whole.{soundRequestedOf, faultyRequested, noRows, E
 use Rattle.definition.specs.Whole.{unlessMissing, editQuestions, edit}
 use Rattle.definition.specs.declared.Point.{Point}
 use Rattle.fresh_outcome.specs.Solver.{Solver, distancesOf, hostOf, withList, fresh, EditFresh, TakeOutFresh, ListKept}
-use Rattle.fresh_outcome.proofs.Lists.{insert-hit, insert-miss, set-hit, set-miss, remove-miss, map-insert, map-set, map-remove, insert-length, remove-shorter}
+use Rattle.fresh_outcome.proofs.Lists.{insert-hit, insert-miss, set-hit, set-miss, remove-miss, map-insert, map-set, map-remove, insert-length}
+use Rattle.fresh_outcome.proofs.Lists.{remove-shorter}
 use Rattle.fresh_outcome.proofs.Rows.{dropAt, mvSlopeAt, bcSlopeAt, lacks, rowsWith, rowsOver, five}
 use Rattle.fresh_outcome.proofs.Runs.{play-then, finishedAt, closing, gapAt, Came, came, again, again-faulty, again-long}
 

@@ -1,4 +1,5 @@
--- A host whose replies come from one solver, and what an edit of the requested distances comes to under it: what a fresh whole run with the edited list comes to.
+-- A host whose replies come from one solver, and what an edit of the requested distances comes to under it: what a fresh whole run with the edited list comes
+-- to.
 -- The theorems stand in proofs/ under the names that stand here: Edits.antt, and Reports.antt (`only-band`).
 use Prim.Native.Nat.{ℕ, _-_}
 use mathlib.Core.Path.{_≡_}
@@ -46,8 +47,10 @@ fresh σ o l = play (hostOf σ (withList o l)) (whole (withList o l))
 
 -- ---- an edit
 
--- Theorem `edit-fresh`: an edit of a finished run, at a place of its list, ends as a fresh whole run with the edited list does: with the same finished run, or with
--- a refusal of the same number and position: 6, or 7 or 13 at the place, which is the first position at fault since the other entries passed. 10 cannot come: the five
+-- Theorem `edit-fresh`: an edit of a finished run, at a place of its list, ends as a fresh whole run with the edited list does: with the same finished run, or
+-- with
+-- a refusal of the same number and position: 6, or 7 or 13 at the place, which is the first position at fault since the other entries passed. 10 cannot come:
+-- the five
 -- points of the new distance are those of the evaluation at the fit, and the solver did not refuse them there.
 abbrev pub EditFresh : Type 0
 EditFresh =
@@ -104,8 +107,10 @@ pub record BandAlone (e : Edit) (before after : Report) : Type 0 where
   pub bands : BandEdited e (before .bands) (after .bands)
   pub warnings : without (after .warnings) ≡ without (before .warnings)
 
--- Theorem `only-band`: between the reports of a list and of the edited list only the band at the place, and the warning about the requested distances, can differ.
+-- Theorem `only-band`: between the reports of a list and of the edited list only the band at the place, and the warning about the requested distances, can
+-- differ.
 abbrev pub OnlyBand : Type 0
 OnlyBand =
-    (σ : Solver) (o : Opening) (l : List Requested) (c d : Finished) (e : Edit) → fresh σ o l ≡ ends c → placed e (length l) ≡ true → fresh σ o (edited e l) ≡ ends d
+    (σ : Solver) (o : Opening) (l : List Requested) (c d : Finished) (e : Edit) → fresh σ o l ≡ ends c → placed e (length l) ≡ true
+    → fresh σ o (edited e l) ≡ ends d
     → BandAlone e (reportOf c) (reportOf d)

@@ -173,7 +173,8 @@ module _ {A : Type 0} where
   over-over (x ∷ xs) (y ∷ ys) (z ∷ zs) h = ap (λ (r : List A). x ∷ r) (over-over xs ys zs (le-of-suc-le-suc h))
 
   -- one place more
-  pub over-suc : (xs ys : List A) (i : ℕ) (d : A) → i < length xs → i < length ys → set (laidOver (take i xs) ys) i (getD xs i d) ≡ laidOver (take (suc i) xs) ys
+  pub over-suc : (xs ys : List A) (i : ℕ) (d : A) → i < length xs → i < length ys
+      → set (laidOver (take i xs) ys) i (getD xs i d) ≡ laidOver (take (suc i) xs) ys
   over-suc [] ys i d g h = absurd (not-suc-le-zero g)
   over-suc (x ∷ xs) [] i d g h = absurd (not-suc-le-zero h)
   over-suc (x ∷ xs) (y ∷ ys) zero d g h = refl

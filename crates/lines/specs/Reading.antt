@@ -27,7 +27,9 @@ use Rattle.lines.specs.declared.Fields.{Fields}
 use Rattle.lines.specs.declared.Reply.{Reply}
 use Rattle.lines.specs.declared.Line.{Line}
 use Rattle.numerals.specs.Numbers.{doubleOf, countOf, saysDouble, saysCount}
-use Rattle.lines.specs.Lines.{Form, malformed, entered, shot, priorSpeed, priorCoefficient, distance, openPlain, drops, refused, putIn, takeOut, exchange, asked, sigmaFrom, entryFrom, enteredOf, shotOf, priorOf, distanceOf, openOf, putInOf, exchangeOf, takeOutOf, afterOpen, beforeClose, wordsOf, formOf}
+use Rattle.lines.specs.Lines.{Form, malformed, entered, shot, priorSpeed, priorCoefficient, distance, openPlain, drops, refused, putIn, takeOut, exchange}
+use Rattle.lines.specs.Lines.{asked, sigmaFrom, entryFrom, enteredOf, shotOf, priorOf, distanceOf, openOf, putInOf, exchangeOf, takeOutOf, afterOpen}
+use Rattle.lines.specs.Lines.{beforeClose, wordsOf, formOf}
 
 -- ---- what the code's values say
 

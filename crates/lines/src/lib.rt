@@ -10,10 +10,13 @@ ghost use lib.Dec.{eqb};
 ghost use lib.ListN.{length, drop};
 ghost use lib.Ieee.{binary64, ofBits, toBits};
 ghost use Rattle.words.specs.Words.{place};
-ghost use Rattle.numerals.specs.Numbers.{digitOf, glyphOf, numberFrom, digitsOf, doubleOf, doubleText, saysDouble, within64, countOf, placesOf, countText, in20, saysCount};
+ghost use Rattle.numerals.specs.Numbers.{digitOf, glyphOf, numberFrom, digitsOf, doubleOf, doubleText, saysDouble, within64, countOf, placesOf, countText};
+ghost use Rattle.numerals.specs.Numbers.{in20, saysCount};
 ghost use Rattle.definition.specs.Run.{Entry};
 ghost use Rattle.lines.specs.Lines.{entryFrom, sigmaFrom, refused, asked, priorBy, openOf};
-ghost use Rattle.lines.specs.Reading.{wordReading, blank, startOf, spoiledOf, withFieldOf, pushOf, withEntryOf, saysEntry, feedOf, saysSigma, entriesIn, formSays, enteredIn, shotIn, priorIn, distanceIn, openIn, putInIn, exchangeIn, takeOutIn, aloneIn, dropsIn, sessionIn, namedIn, formIn, endOf, takeOf};
+ghost use Rattle.lines.specs.Reading.{wordReading, blank, startOf, spoiledOf, withFieldOf, pushOf, withEntryOf, saysEntry, feedOf, saysSigma, entriesIn};
+ghost use Rattle.lines.specs.Reading.{formSays, enteredIn, shotIn, priorIn, distanceIn, openIn, putInIn, exchangeIn, takeOutIn, aloneIn, dropsIn};
+ghost use Rattle.lines.specs.Reading.{sessionIn, namedIn, formIn, endOf, takeOf};
 
 enum ReadSigma {
     Malformed,

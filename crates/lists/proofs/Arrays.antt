@@ -52,7 +52,8 @@ places-all xs i h = over-all xs (replicate 64 zero64) i h
 -- ---- the measured part
 
 pub shots-measured : (ranges drops sigmas : List Float) → length (observationsOf ranges drops sigmas) ≤ 64
-    → (let s = shotsFrom ranges drops sigmas in observationsOf (take (s .n) (s .ranges)) (take (s .n) (s .drops)) (take (s .n) (s .sigmas))) ≡ observationsOf ranges drops sigmas
+    → (let s = shotsFrom ranges drops sigmas in observationsOf (take (s .n) (s .ranges)) (take (s .n) (s .drops))
+    (take (s .n) (s .sigmas))) ≡ observationsOf ranges drops sigmas
 shots-measured ranges drops sigmas h = go (shortestOf (length ranges) (length drops) (length sigmas)) (sym (zip3-shortest observationOf ranges drops sigmas))
   where
     go : (n : ℕ) → n ≡ length (observationsOf ranges drops sigmas)

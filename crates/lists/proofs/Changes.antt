@@ -27,7 +27,8 @@ use Rattle.lists.specs.declared.Wanted.{Wanted}
 -- ---- two lists changed alike
 
 module _ {A B C : Type 0} (f : A → B → C) where
-  zip-insert : (xs : List A) (ys : List B) (i : ℕ) (x : A) (y : B) → length xs ≡ length ys → zipWith f (insertAt i x xs) (insertAt i y ys) ≡ insertAt i (f x y) (zipWith f xs ys)
+  zip-insert : (xs : List A) (ys : List B) (i : ℕ) (x : A) (y : B) → length xs ≡ length ys
+      → zipWith f (insertAt i x xs) (insertAt i y ys) ≡ insertAt i (f x y) (zipWith f xs ys)
   zip-insert xs ys zero x y e = refl
   zip-insert [] [] (suc i) x y e = refl
   zip-insert [] (b ∷ ys) (suc i) x y e = absurd (omega arith)
@@ -70,7 +71,8 @@ module _ (old r : List Float) (n i j : ℕ) (x : Float) (at : j ≡ i - 1) where
       let lo = leb→le 1 i (left-of (leb 1 i) (leb i (n + 1)) p) in
       let hi = leb→le i (n + 1) (right-of (leb 1 i) (leb i (n + 1)) p) in
       let room = ltb→lt n 64 h in
-      ap (λ (m : ℕ). take m r) (sym (add-one n)) ∙ ap (take (n + 1)) e ∙ inserted-places n j old x l (omega arith) room ∙ ap (λ (m : ℕ). insertAt m x (take n old)) at
+      ap (λ (m : ℕ). take m r) (sym (add-one n)) ∙ ap (take (n + 1)) e ∙ inserted-places n j old x l (omega arith) room
+      ∙ ap (λ (m : ℕ). insertAt m x (take n old)) at
 
   pub took-places : length old ≡ 64 → r ≡ removedOf n j old → n ≤ 64 → T (leb 1 i && leb i n) → take (n - 1) r ≡ removeAt (i - 1) (take n old)
   took-places l e h p =

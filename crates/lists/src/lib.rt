@@ -1,4 +1,5 @@
-// The observations and the requested distances of a run, each list in the first places of arrays of 64; and changes of the requested distances and of their rows.
+// The observations and the requested distances of a run, each list in the first places of arrays of 64; and changes of the requested distances and of their
+// rows.
 use definition::Number;
 use definition::Row;
 use stencil::StencilRows;

@@ -5,7 +5,8 @@ ghost use mathlib.Core.Option.{none, some};
 ghost use Prim.Native.Nat.{_+_, _*_, _≤_, _<_};
 ghost use lib.ListN.{length, drop};
 ghost use lib.Ieee.{binary64, ofBits, toBits};
-ghost use Rattle.numerals.specs.Numbers.{digitOf, glyphOf, numberFrom, digitsOf, doubleOf, doubleText, saysDouble, within64, countOf, placesOf, countText, in20, saysCount};
+ghost use Rattle.numerals.specs.Numbers.{digitOf, glyphOf, numberFrom, digitsOf, doubleOf, doubleText, saysDouble, within64, countOf, placesOf};
+ghost use Rattle.numerals.specs.Numbers.{countText, in20, saysCount};
 
 const SIGN: u64 = 0x8000_0000_0000_0000;
 

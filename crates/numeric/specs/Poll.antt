@@ -9,7 +9,8 @@ use Rattle.numeric.specs.declared.Direction.{Direction}
 abbrev pub noDirection : Float → Float → Float → Bool
 noDirection x y h = not (finite x) || not (finite y) || not (finite h) || eq h zero64
 
--- x = a00 − a11, y = 2 · a01, h = hypot(x, y): (1, 0) where there is no direction; else cos = root((1 + x/h)/2), sin = root((1 − x/h)/2), and only sin is negated, if y < 0.
+-- x = a00 − a11, y = 2 · a01, h = hypot(x, y): (1, 0) where there is no direction; else cos = root((1 + x/h)/2), sin = root((1 − x/h)/2), and only sin is
+-- negated, if y < 0.
 unfoldable pub directionOf : Float → Float → Float → Direction
 directionOf a00 a01 a11 =
     let x = sub binary64 a00 a11 in

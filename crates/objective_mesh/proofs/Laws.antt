@@ -109,7 +109,8 @@ module _ (axis : Direction) (radius : Float) (centre : Point) (current best : Fl
   ungained-end z e = rw (z, e)
 
   module _ {l : ℕ} (ek : k ≡ suc l) {r : Float} (er : r ≡ mesh.quarteredOf radius) where
-    smaller-radius : mesh.fromFirst axis r l centre current n (mesh.ungained axis r l centre current current n) ≡ mesh.ungained axis radius k centre current best n
+    smaller-radius : mesh.fromFirst axis r l centre current n
+        (mesh.ungained axis r l centre current current n) ≡ mesh.ungained axis radius k centre current best n
     unfolding mesh.ungained
     smaller-radius = simp (ek, er)
 
@@ -131,7 +132,8 @@ module _ (axis : Direction) (radius : Float) (k : ℕ) (centre : Point) (current
   unfolding mesh.begin
   begin-moved t es = rw es (looked-moved axis ef _ _ t)
 
-  pub begin-none : {w : mesh.PollStep} → f ≡ NoneMoved → w ≡ mesh.ungained axis radius k centre current current n → w ≡ mesh.begin axis radius k centre current n
+  pub begin-none : {w : mesh.PollStep} → f ≡ NoneMoved → w ≡ mesh.ungained axis radius k centre current current n
+      → w ≡ mesh.begin axis radius k centre current n
   unfolding mesh.begin
   begin-none t e = e ∙ looked-none axis ef _ _ t
 

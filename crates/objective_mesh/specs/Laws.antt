@@ -13,7 +13,8 @@ use Rattle.definition.specs.declared.Point.{Point}
 use Rattle.objective_mesh.specs.Meaning.{lastDirection}
 
 -- while an index is below eight, one direction more remains
-pub directions-from : (axis : Direction) (j : ℕ) → j < 8 → drop j (mesh.directions axis) ≡ getD (mesh.directions axis) j (lastDirection axis) ∷ drop (suc j) (mesh.directions axis)
+pub directions-from : (axis : Direction) (j : ℕ) → j < 8 → drop j (mesh.directions axis) ≡ getD (mesh.directions axis) j (lastDirection axis) ∷ drop (suc j)
+    (mesh.directions axis)
 directions-from axis j h = drop-cons (mesh.directions axis) j (lastDirection axis) h
 
 drop-past : (l : List Point) (j : ℕ) → length l ≤ j → drop j l ≡ []

@@ -1,4 +1,5 @@
--- What the poll's structs and answers stand for in the definition: a direction not yet looked at is an index into the eight, and what remains is the list from there on.
+-- What the poll's structs and answers stand for in the definition: a direction not yet looked at is an index into the eight, and what remains is the list from
+-- there on.
 use mathlib.Core.Bool.{cond}
 use lib.Dec.{ltb}
 use lib.Ieee.{Float, neg}

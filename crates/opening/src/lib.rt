@@ -5,7 +5,8 @@ use definition::Prior;
 use definition::TruingPriorsV1;
 ghost use mathlib.Core.Path.{_≡_};
 ghost use Rattle.definition.specs.Lists.{firstAt};
-ghost use Rattle.definition.specs.Whole.{withinOf, positiveOf, soundObservationOf, faultyObservation, soundPriorOf, soundSigma, soundRequestedOf, faultyRequested, checkedMeasured, checkedRequested};
+ghost use Rattle.definition.specs.Whole.{withinOf, positiveOf, soundObservationOf, faultyObservation, soundPriorOf, soundSigma, soundRequestedOf};
+ghost use Rattle.definition.specs.Whole.{faultyRequested, checkedMeasured, checkedRequested};
 ghost use Rattle.definition.specs.Meaning.{numberOf, observationsOf, requestedOf};
 ghost use Rattle.opening.specs.Opening.{wantedAt, requestedFrom, measuredFrom, openingOf, checkedSays, checkedOf};
 

@@ -47,7 +47,8 @@ module _ (moved : Moved) (t : Next) where
   known : (x : Next) (w : Wait) → moved .wait ≡ w → t ≡ x → Leads x (λ m ds. restOf m ds (moved .progress) w) → Waits moved t
   known x w e a l = leads-as a (subst (λ (y : Wait). Leads x (λ m ds. restOf m ds (moved .progress) y)) (sym e) l)
 
-  pub waits-evaluation : (stage : Stage) → moved .wait ≡ Wait.Evaluation stage → t ≡ asksAt (moved .progress) (Evaluation stage 0) (moved .progress .point) Shots → Waits moved t
+  pub waits-evaluation : (stage : Stage) → moved .wait ≡ Wait.Evaluation stage
+      → t ≡ asksAt (moved .progress) (Evaluation stage 0) (moved .progress .point) Shots → Waits moved t
   unfolding likelihood.evaluate likelihood.truingJacobianRows
   waits-evaluation stage e a = known _ (Wait.Evaluation stage) e a (record { leads = λ h. refl; says = λ h. refl })
 
@@ -76,7 +77,8 @@ value-finite g x b z f = ap (λ (t : Bool). bind (require t 12 0) (λ v. done x)
 
 module _ (gap : ℕ) (sum : Float) (moved : Moved) (t : Next) where
   by-value : (v : Run Float) → v ≡ valuedFrom gap sum
-      → ((f : Measured → List Requested → Float → Run Finished) → ((m : Measured) (ds : List Requested) → restOf m ds (moved .progress) (moved .wait) ≡ f m ds sum)
+      → ((f : Measured → List Requested → Float → Run Finished)
+      → ((m : Measured) (ds : List Requested) → restOf m ds (moved .progress) (moved .wait) ≡ f m ds sum)
       → Leads t (λ m ds. bind v (f m ds)))
       → Judges gap sum moved t
   by-value v e l = record { is = λ f w. leads-same (l f w) (λ m ds. ap (λ (x : Run Float). bind x (f m ds)) e) }
@@ -94,7 +96,8 @@ module _ (gap : ℕ) (sum : Float) (moved : Moved) (t : Next) where
 -- ---- one reply more of the five
 
 module _ (stage : Stage) (k : ℕ) (g : Progress) (e : Evaluated) (gap : ℕ) (requested : Bool) (entered : Point) (t : Next) where
-  pub five-asks : (q : Point) → k < 4 → q ≡ pointAt (k + 1) (g .point) → t ≡ asksAt g (Evaluation stage (k + 1)) q Shots → Fives stage k g e gap requested entered t
+  pub five-asks : (q : Point) → k < 4 → q ≡ pointAt (k + 1) (g .point) → t ≡ asksAt g (Evaluation stage (k + 1)) q Shots
+      → Fives stage k g e gap requested entered t
   five-asks q l p a = record {
     more = λ h. a ∙ ap (λ (x : Point). asksAt g (Evaluation stage (k + 1)) x Shots) p;
     gapped = λ h z. absurd (omega arith);

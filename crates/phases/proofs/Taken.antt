@@ -28,7 +28,8 @@ use Rattle.fitting.specs.declared.Stage.the-variants as Stage
 use Rattle.fitting.proofs.Laws.{bind-assoc}
 use Rattle.stencil.specs.Stencil.{stencil, stencilNext, pointAt, rowsNext}
 use Rattle.stencil.proofs.Laws.{left, left-more, left-gap, left-whole, stencil-left}
-use Rattle.phases.specs.Phases.{Held, withProgress, afterBands, finishedWith, finishedOf, stateAt, isAtFit, planOf, asksAt, stopsAt, reportsAt, Leads, valuedFrom, withEvaluation, atFitAt, Evaluates, Fives, fiveBandsAt, Takes}
+use Rattle.phases.specs.Phases.{Held, withProgress, afterBands, finishedWith, finishedOf, stateAt, isAtFit, planOf, asksAt, stopsAt, reportsAt, Leads}
+use Rattle.phases.specs.Phases.{valuedFrom, withEvaluation, atFitAt, Evaluates, Fives, fiveBandsAt, Takes}
 use Rattle.phases.specs.declared.Phase.{Phase}
 use Rattle.phases.specs.declared.Phase.the-variants.{Over, Start, Evaluation, Trial, Look, Bands, Ended}
 use Rattle.phases.specs.declared.Phase.the-variants as Phase
@@ -46,7 +47,8 @@ continueAt h Over reply = refuse 8 0
 continueAt h Start reply = valuedBy (h .measured) (h .measured .entered) (λ v. startAt (h .measured .entered) v (h .measured) (h .requested)) reply
 continueAt h (Evaluation stage k) reply =
     let p = h .progress .point in
-    bind (bind (bind (answered reply) (λ d. stencilNext k p shots (rowsNext k p (h .rows) d))) (likelihood.complete 11)) (afterRows (h .measured) (h .requested) (h .progress) stage)
+    bind (bind (bind (answered reply) (λ d. stencilNext k p shots (rowsNext k p (h .rows) d))) (likelihood.complete 11))
+    (afterRows (h .measured) (h .requested) (h .progress) stage)
 continueAt h (Trial q) reply = valuedBy (h .measured) q (afterTrial (h .measured) (h .requested) (h .progress) q) reply
 continueAt h (Look c) reply = valuedBy (h .measured) c (afterLook (h .measured) (h .requested) (h .progress) c) reply
 continueAt h (Bands k) reply =
@@ -97,7 +99,8 @@ concluded-asks : (h : Held) (rows : likelihood.Rows)
 unfolding whole.concluded whole.baseline
 concluded-asks h rows = refl
 
-pub open-state : (h : Held) (ph : Phase) (entered : Point) → planOf ph entered .asks ≡ true → stateAt h ph ≡ asking none (ask (pointOf h ph) (whichOf ph) (continueAt h ph))
+pub open-state : (h : Held) (ph : Phase) (entered : Point) → planOf ph entered .asks ≡ true
+    → stateAt h ph ≡ asking none (ask (pointOf h ph) (whichOf ph) (continueAt h ph))
 open-state h Over x e = cc
 open-state h Start x e = ap (after none) (run-starts (h .measured) (h .requested) ∙ objective-asks (h .measured) (h .measured .entered) _)
 open-state h (Evaluation stage k) x e =
@@ -120,7 +123,8 @@ open-wants z Phase.Baseline x = refl
 open-wants z Ended x = refl
 
 -- no question is open: the run is over, or its report stands
-pub closed-state : (h : Held) (ph : Phase) (entered : Point) → planOf ph entered .asks ≡ false → stateAt h ph ≡ cond (planOf ph entered .stands) (standing (finishedOf h)) over
+pub closed-state : (h : Held) (ph : Phase) (entered : Point) → planOf ph entered .asks ≡ false
+    → stateAt h ph ≡ cond (planOf ph entered .stands) (standing (finishedOf h)) over
 closed-state h Over x e = refl
 closed-state h Start x e = cc
 closed-state h (Evaluation stage k) x e = cc
@@ -199,7 +203,8 @@ laidIn h rows bandRows predicted baseline = record {
   baseline = baseline;
 }
 
-module _ (h : Held) (es : List Entry) (rows bandRows : likelihood.Rows) (predicted : List Float) (baseline : Option Baseline) (e : Evaluated) (found : ℕ) (sum : Float) (gap : ℕ) (requested : Bool) where
+module _ (h : Held) (es : List Entry) (rows bandRows : likelihood.Rows) (predicted : List Float) (baseline : Option Baseline) (e : Evaluated) (found : ℕ)
+    (sum : Float) (gap : ℕ) (requested : Bool) where
   -- one of the five at the observations
   pub record LaidFive (stage : Stage) (k : ℕ) : Type 0 where
     pub laid : rows ≡ rowsNext k (h .progress .point) (h .rows) (readingOf es)
@@ -252,7 +257,8 @@ module _ (h : Held) (es : List Entry) (rows bandRows : likelihood.Rows) (predict
 
   -- ---- an objective
 
-  value-led : (t : Next) (q : Point) (f : Measured → List Requested → Float → Run Finished) → LaidValue q → Leads t (λ m ds. bind (valuedFrom found sum) (f m ds))
+  value-led : (t : Next) (q : Point) (f : Measured → List Requested → Float → Run Finished) → LaidValue q
+      → Leads t (λ m ds. bind (valuedFrom found sum) (f m ds))
       → Led t (valuedBy (h .measured) q (f (h .measured) (h .requested)) (entries es))
   value-led t q f v l = record {
     leads = l .leads with-reply ∙ ap (λ (x : Run Float). after none (bind x (f (h .measured) (h .requested)))) v;
@@ -303,7 +309,8 @@ module _ (h : Held) (es : List Entry) (rows bandRows : likelihood.Rows) (predict
         led-same
         (led-as (is ∙ ap (λ (y : Bool). atFitAt g e y (m .entered)) x)
         (record { leads = refl; says = ap head (sym (stencil-left 0 p distances bandRows 13 (whole.concluded m ds (fitOf g) e predicted))) }))
-        (ap (λ (drops : List Float). bind (bind (likelihood.truingJacobianRows p distances) (likelihood.complete 13)) (whole.concluded m ds (fitOf g) e drops)) same
+        (ap (λ (drops : List Float). bind (bind (likelihood.truingJacobianRows p distances) (likelihood.complete 13))
+        (whole.concluded m ds (fitOf g) e drops)) same
         ∙ sym (some-bands m (fitOf g) e (rows .predicted) ds (l .some-requested x)))
     at-fit false x is same z =
         let g = h .progress in
@@ -311,12 +318,14 @@ module _ (h : Held) (es : List Entry) (rows bandRows : likelihood.Rows) (predict
         let ds = h .requested in
         let n = l .none-requested x z in
         led-same
-        (led-as (is ∙ ap (λ (y : Bool). atFitAt g e y (m .entered)) x) (record { leads = refl; says = ap head (sym (concluded-asks (withProgress with-reply (withEvaluation g e)) bandRows)) }))
+        (led-as (is ∙ ap (λ (y : Bool). atFitAt g e y (m .entered)) x)
+        (record { leads = refl; says = ap head (sym (concluded-asks (withProgress with-reply (withEvaluation g e)) bandRows)) }))
         (ap (λ (drops : List Float). whole.concluded m ds (fitOf g) e drops bandRows) same
         ∙ ap (λ (r : likelihood.Rows). whole.concluded m ds (fitOf g) e (rows .predicted) r) (n .1)
         ∙ sym (no-bands m (fitOf g) e (rows .predicted) ds (n .0)))
 
-    whole-led : (s : Stage) → stage ≡ s → Evaluates s (h .progress) e requested (h .measured .entered) t → 4 ≤ k → gap ≡ 0 → Led t (afterRows (h .measured) (h .requested) (h .progress) s rows)
+    whole-led : (s : Stage) → stage ≡ s → Evaluates s (h .progress) e requested (h .measured .entered) t → 4 ≤ k → gap ≡ 0
+        → Led t (afterRows (h .measured) (h .requested) (h .progress) s rows)
     whole-led Stage.Iteration i w le z = record { leads = w .leads with-reply rows (l .evaluated le z); says = w .says with-reply rows (l .evaluated le z) }
     whole-led Stage.Final i w le z = record { leads = w .leads with-reply rows (l .evaluated le z); says = w .says with-reply rows (l .evaluated le z) }
     whole-led Stage.Mesh i w le z = record { leads = w .leads with-reply rows (l .evaluated le z); says = w .says with-reply rows (l .evaluated le z) }
@@ -338,7 +347,8 @@ module _ (h : Held) (es : List Entry) (rows bandRows : likelihood.Rows) (predict
         ap (λ (r : likelihood.Rows). left k p distances r 13 (afterBands with-reply)) (l .laid)
         ∙ ap
         (λ (drops : List Float).
-        left k p distances (rowsNext k p (h .bandRows) (readingOf es)) 13 (whole.concluded (h .measured) (h .requested) (fitOf (h .progress)) (h .progress .evaluation) drops))
+        left k p distances (rowsNext k p (h .bandRows) (readingOf es)) 13
+        (whole.concluded (h .measured) (h .requested) (fitOf (h .progress)) (h .progress .evaluation) drops))
         (l .kept)
 
     abbrev asked-next : ℕ → Next
@@ -357,7 +367,8 @@ module _ (h : Held) (es : List Entry) (rows bandRows : likelihood.Rows) (predict
 
     bands-led : (x y : Bool) → ltb k 4 ≡ x → eqb gap 0 ≡ y → Led t (continueAt h (Bands k) (entries es))
     bands-led true y a b =
-        led-same (led-as (next-is true y a b) (more-led k distances 13 (afterBands with-reply) bandRows (asked-next (suc k)) (ltb-true k 4 a) refl refl)) by-bands
+        led-same (led-as (next-is true y a b) (more-led k distances 13 (afterBands with-reply) bandRows (asked-next (suc k))
+        (ltb-true k 4 a) refl refl)) by-bands
     bands-led false true a b =
         led-same (led-as (next-is false true a b) (record { leads = refl; says = ap head (sym (concluded-asks with-reply bandRows)) }))
         (sym (left-whole k p distances bandRows 13 (afterBands with-reply) (ltb-false k 4 a) (l .gap-is ∙ eqb-true gap 0 b)) ∙ by-bands)
@@ -384,7 +395,8 @@ module _ (h : Held) (es : List Entry) (rows bandRows : likelihood.Rows) (predict
 
   -- ---- by which question was open
 
-  pub taken : (ph : Phase) (t : Next) → Laid ph → Takes ph (h .progress) e found sum gap requested (h .measured .entered) t → Led t (continueAt h ph (entries es))
+  pub taken : (ph : Phase) (t : Next) → Laid ph → Takes ph (h .progress) e found sum gap requested (h .measured .entered) t
+      → Led t (continueAt h ph (entries es))
   taken Over t l v = absurd l
   taken Start t l v = value-led t (h .measured .entered) (λ m ds x. startAt (h .measured .entered) x m ds) l v
   taken (Evaluation stage k) t l v = five-led stage k t l v (leb 4 k) (eqb gap 0) refl refl

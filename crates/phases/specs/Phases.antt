@@ -81,7 +81,8 @@ abbrev pub stateAt : Held → Phase → State
 stateAt h Over = over
 stateAt h Start = after none (whole.run (h .measured) (h .requested))
 stateAt h (Evaluation stage k) =
-    after none (bind (bind (stencil k (h .progress .point) shots (h .rows)) (likelihood.complete 11)) (afterRows (h .measured) (h .requested) (h .progress) stage))
+    after none (bind (bind (stencil k (h .progress .point) shots (h .rows)) (likelihood.complete 11))
+    (afterRows (h .measured) (h .requested) (h .progress) stage))
 stateAt h (Trial q) = after none (restOf (h .measured) (h .requested) (h .progress) (Wait.Trial q))
 stateAt h (Look c) = after none (restOf (h .measured) (h .requested) (h .progress) (Wait.Look c))
 stateAt h (Bands k) = after none (bind (bind (stencil k (h .progress .point) distances (h .bandRows)) (likelihood.complete 13)) (afterBands h))
@@ -108,7 +109,17 @@ objectiveAsked q = record { asks = true; «of_requested» = false; stands = fals
 -- the k-th of the five questions, at the requested distances or at the observations, and there at the fit or not
 abbrev pub fiveAsked : Bool → ℕ → Bool → Point → Plan
 fiveAsked requested k atFit entered =
-    record { asks = true; «of_requested» = requested; stands = false; row = fiveRow k; objective = false; point = entered; last = not requested && leb 4 k; «at_fit» = atFit }
+    record {
+      asks = true;
+      «of_requested» = requested;
+      stands = false;
+      row = fiveRow k;
+      objective = false;
+      point = entered;
+      last = not requested
+          && leb 4 k;
+      «at_fit» = atFit;
+    }
 
 -- the drops at the entered point, once the fit has ended
 abbrev pub baselineAsked : Point → Plan
@@ -150,7 +161,8 @@ valuedFrom gap s = bind (unless gap 11) (λ u. bind (require (finite s) 12 0) (�
 
 -- an objective from this gap and sum is judged; where it is there, the fit waits as what follows it does
 pub record Judges (gap : ℕ) (sum : Float) (moved : Moved) (t : Next) : Type 0 where
-  pub is : (f : Measured → List Requested → Float → Run Finished) → ((m : Measured) (ds : List Requested) → restOf m ds (moved .progress) (moved .wait) ≡ f m ds sum)
+  pub is : (f : Measured → List Requested → Float → Run Finished)
+      → ((m : Measured) (ds : List Requested) → restOf m ds (moved .progress) (moved .wait) ≡ f m ds sum)
       → Leads t (λ m ds. bind (valuedFrom gap sum) (f m ds))
 
 abbrev pub withEvaluation : Progress → Evaluated → Progress

@@ -8,7 +8,8 @@ use fitting::Progress;
 use fitting::Stage;
 use fitting::Wait;
 ghost use mathlib.Core.Path.{_≡_};
-ghost use Rattle.phases.specs.Phases.{isAtFit, nothingAsked, objectiveAsked, fiveAsked, planOf, asksAt, stopsAt, Waits, Judges, atFitAt, Evaluates, Fives, fiveBandsAt, Takes};
+ghost use Rattle.phases.specs.Phases.{isAtFit, nothingAsked, objectiveAsked, fiveAsked, planOf, asksAt, stopsAt, Waits, Judges, atFitAt, Evaluates};
+ghost use Rattle.phases.specs.Phases.{Fives, fiveBandsAt, Takes};
 
 // Which question is open, if one is.
 pub enum Phase {

@@ -1,4 +1,5 @@
--- The demonstration solver, as a function of a point, a unit and one distance. Each operation rounds once; constants stand by their bits, with their decimals beside them.
+-- The demonstration solver, as a function of a point, a unit and one distance. Each operation rounds once; constants stand by their bits, with their decimals
+-- beside them.
 use Prim.Native.Nat.{ℕ, zero, suc}
 use mathlib.Core.Bool.{Bool, cond, _&&_}
 use mathlib.Core.Path.{_≡_}
@@ -53,7 +54,8 @@ halfTime = ofBits binary64 0x3f50_0000_0000_0000
 abbrev pub gravity : Float
 gravity = ofBits binary64 0x4040_1645_a1ca_c083
 
--- the first-order flat-fire expansion of the length of the velocity, vx + vy² / 2 vx: good to a millionth at a bullet's flat angles, where vy is below a twentieth
+-- the first-order flat-fire expansion of the length of the velocity, vx + vy² / 2 vx: good to a millionth at a bullet's flat angles, where vy is below a
+-- twentieth
 -- of vx
 abbrev pub speedOf : Float → Float → Float
 speedOf vx vy = vx ⊕ vy ⊗ vy ⊘ (vx ⊕ vx)

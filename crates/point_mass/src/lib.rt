@@ -1,4 +1,5 @@
-// A flight solver for demonstrations, and no part of the estimator: it lets a fit be run without a host's own solver. A point mass is fired horizontally; drag and
+// A flight solver for demonstrations, and no part of the estimator: it lets a fit be run without a host's own solver. A point mass is fired horizontally; drag
+// and
 // gravity act on it in steps of a fixed time. The answer at a distance depends on the point and that distance alone, whatever else is asked about.
 use definition::Point;
 use numeric::DropUnit;
@@ -79,7 +80,8 @@ fn drag(speed: f64) -> f64
     0.65 - (speed - 1250.0) * 0.00008
 }
 
-// One step: the speeds by the forces at its start, the place by the mean of the speeds before and after. `k` is the retardation's factor over the coefficient. The
+// One step: the speeds by the forces at its start, the place by the mean of the speeds before and after. `k` is the retardation's factor over the coefficient.
+// The
 // whole speed is the flat-fire expansion of the velocity's length, which needs no root.
 fn step(k: f64, s: Flight) -> Flight
     ensures { λ r. ⌜ r ≡ stepOf k s ⌝ }

@@ -46,7 +46,8 @@ seenOf r results entered bands = record {
 }
 
 -- what a head is made of are the parts of this finished run, the baseline with these results
-pub record PartsOf (c : Finished) (n wanted : ℕ) (g : Progress) (priors : TruingPriorsV1) (baseline : Baseline) (entered : Results) (outside : Bool) : Type 0 where
+pub record PartsOf (c : Finished) (n wanted : ℕ) (g : Progress) (priors : TruingPriorsV1) (baseline : Baseline) (entered : Results)
+    (outside : Bool) : Type 0 where
   pub has-observations : length (c .measured .observations) ≡ n
   pub has-requested : length (c .requested) ≡ wanted
   pub has-fit : c .fit ≡ fitOf g
@@ -58,6 +59,7 @@ pub record PartsOf (c : Finished) (n wanted : ℕ) (g : Progress) (priors : Trui
 -- the head, with the three lists, is the report of every finished run that has these parts; the two counts are those of the lists
 pub record Shows (r : UncertaintyTruingReportV1) (n wanted : ℕ) (g : Progress) (priors : TruingPriorsV1) (baseline : Baseline) (outside : Bool) : Type 0 where
   pub whole : (c : Finished) (entered : Results) → PartsOf c n wanted g priors baseline entered outside
-      → reportOf c ≡ seenOf r (resultsOf (c .measured .observations) (c .predicted)) entered (zipWith (bandOf (approximationSays (r .approximation))) (c .requested) (rowsOf (c .bandRows)))
+      → reportOf c ≡ seenOf r (resultsOf (c .measured .observations) (c .predicted)) entered
+      (zipWith (bandOf (approximationSays (r .approximation))) (c .requested) (rowsOf (c .bandRows)))
   pub results : r .observations ≡ n
   pub bands : r .«predictive_bands» ≡ wanted

@@ -30,7 +30,8 @@ pub enum Baseline {
     Given(TruingBaselineV1),
 }
 
-// The report but for its lists of observation results, of the baseline's and of predictive bands, which stand beside it: the first and the last by their lengths.
+// The report but for its lists of observation results, of the baseline's and of predictive bands, which stand beside it: the first and the last by their
+// lengths.
 pub struct UncertaintyTruingReportV1 {
     pub schema_version: u32,
     pub map_muzzle_velocity_fps: f64,

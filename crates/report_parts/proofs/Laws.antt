@@ -31,7 +31,8 @@ zip-take-first f (x ∷ xs) [] (suc n) = refl
 zip-take-first f (x ∷ xs) (y ∷ ys) zero = refl
 zip-take-first {A} {B} {C} f (x ∷ xs) (y ∷ ys) (suc n) = ap (λ (l : List C). f x y ∷ l) (zip-take-first f xs ys n)
 
-zip3-first : {A B C D : Type 0} (f : A → B → C → D) (xs : List A) (ys : List B) (zs : List C) (n : ℕ) → zipWith3 f (take n xs) ys zs ≡ zipWith3 f (take n xs) (take n ys) (take n zs)
+zip3-first : {A B C D : Type 0} (f : A → B → C → D) (xs : List A) (ys : List B) (zs : List C) (n : ℕ)
+    → zipWith3 f (take n xs) ys zs ≡ zipWith3 f (take n xs) (take n ys) (take n zs)
 zip3-first f xs ys zs n = zip3-take-first f xs ys zs n ∙ sym (zip3-take f xs ys zs n)
 
 pub results-places : (s : Shots) (drops : List Float) → resultsOf (observationsOf (take (s .n) (s .ranges)) (s .drops) (s .sigmas)) drops ≡ resultsAt s drops
@@ -46,7 +47,8 @@ pub bands-places : (a : Approximation) (w : Wanted) (t : StencilRows)
 bands-places a w t =
     let n = w .n in
     let rows = zipWith3 rowOf (t .predicted) (t .«by_mv») (t .«by_bc») in
-    ap (λ (l : List Requested). zipWith (bandOf a) l rows) (zip-take-first requestedAt (w .ranges) (w .sigmas) n ∙ zip-take requestedAt (w .ranges) (w .sigmas) n)
+    ap (λ (l : List Requested). zipWith (bandOf a) l rows) (zip-take-first requestedAt (w .ranges) (w .sigmas) n
+    ∙ zip-take requestedAt (w .ranges) (w .sigmas) n)
     ∙ zip-take-first (bandOf a) (zipWith requestedAt (w .ranges) (w .sigmas)) rows n
     ∙ ap (λ (l : List Requested). zipWith (bandOf a) l (take n rows)) (sym (zip-take requestedAt (w .ranges) (w .sigmas) n))
     ∙ ap (λ (l : List Row). zipWith (bandOf a) (requestedIn w) l) (sym (zip3-take rowOf (t .predicted) (t .«by_mv») (t .«by_bc») n))
@@ -69,7 +71,8 @@ module _ (s : Shots) (r : length (s .ranges) ≡ 64) (d : length (s .drops) ≡ 
   pub counts-results : (predicted drops : List Float) → length predicted ≡ 64 → length drops ≡ 64 → ResultsCount s predicted drops (s .n)
   counts-results predicted drops p q = record { observed = observed; results = results-length predicted p; entered = results-length drops q }
 
-module _ (w : Wanted) (t : StencilRows) (r : length (w .ranges) ≡ 64) (g : length (w .sigmas) ≡ 64) (p : length (t .predicted) ≡ 64) (m : length (t .«by_mv») ≡ 64) (b : length (t .«by_bc») ≡ 64) where
+module _ (w : Wanted) (t : StencilRows) (r : length (w .ranges) ≡ 64) (g : length (w .sigmas) ≡ 64) (p : length (t .predicted) ≡ 64)
+    (m : length (t .«by_mv») ≡ 64) (b : length (t .«by_bc») ≡ 64) where
   wanted : w .n ≤ 64 → length (requestedIn w) ≡ w .n
   wanted h =
       let x = taken-length (w .n) (w .ranges) r h in
@@ -90,7 +93,8 @@ module _ (w : Wanted) (t : StencilRows) (r : length (w .ranges) ≡ 64) (g : len
     bands = λ a h. let x = wanted h in zip-length (bandOf a) (requestedIn w) (rowsOf (rowsAt (w .n) t)) (rows h ∙ sym x) ∙ x;
   }
 
-pub outside-places : (s : Shots) (w : Wanted) → length (s .ranges) ≡ 64 → length (s .drops) ≡ 64 → length (s .sigmas) ≡ 64 → length (w .ranges) ≡ 64 → length (w .sigmas) ≡ 64
+pub outside-places : (s : Shots) (w : Wanted) → length (s .ranges) ≡ 64 → length (s .drops) ≡ 64 → length (s .sigmas) ≡ 64 → length (w .ranges) ≡ 64
+    → length (w .sigmas) ≡ 64
     → s .n ≤ 64 → w .n ≤ 64 → anyOutsideOf (take (s .n) (s .ranges)) (take (w .n) (w .ranges)) ≡ any (isOutside (observationsAt s)) (requestedIn w)
 outside-places s w r d g x y h k =
     let a = taken-length (s .n) (s .ranges) r h in

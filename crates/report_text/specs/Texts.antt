@@ -82,7 +82,8 @@ warningName Warning.PredictionOutsideObservedDomain = bytes "PredictionOutsideOb
 
 unfoldable pub gaussianText : GaussianIntervalV1 → Text
 gaussianText g =
-    bracketed (doubleText (g .estimate) ∷ doubleText (g .«standard_deviation») ∷ doubleText (g .lower) ∷ doubleText (g .upper) ∷ doubleText (g .probability) ∷ [])
+    bracketed (doubleText (g .estimate) ∷ doubleText (g .«standard_deviation») ∷ doubleText (g .lower) ∷ doubleText (g .upper) ∷ doubleText
+    (g .probability) ∷ [])
 
 abbrev pub intervalText : Option GaussianIntervalV1 → Text
 intervalText i = orNone gaussianText i

@@ -31,8 +31,11 @@ ghost use Rattle.warnings.specs.Warnings.{codesOf};
 ghost use Rattle.words.specs.Words.{bytes, wordAt};
 ghost use Rattle.numerals.specs.Numbers.{doubleText, countText};
 ghost use Rattle.report_text.specs.Writing.{Writes};
-ghost use Rattle.report_text.specs.Texts.{bracketed, orNone, truthText, numberText, criterionName, failureName, gaussianText, intervalText, normalText, priorText, priorsText, resultText, diagnosticsText, covarianceText, availableText, approximationText, bandText, warningsText, listName, questionText, declinedText, askedText, malformedText};
-ghost use Rattle.report_text.specs.Pieces.{before, headText, givenHead, baselineHead, baselineEnd, middleText, endText, sumsText, pollsText, markText, marksOf, marksText};
+ghost use Rattle.report_text.specs.Texts.{bracketed, orNone, truthText, numberText, criterionName, failureName, gaussianText, intervalText, normalText};
+ghost use Rattle.report_text.specs.Texts.{priorText, priorsText, resultText, diagnosticsText, covarianceText, availableText, approximationText, bandText};
+ghost use Rattle.report_text.specs.Texts.{warningsText, listName, questionText, declinedText, askedText, malformedText};
+ghost use Rattle.report_text.specs.Pieces.{before, headText, givenHead, baselineHead, baselineEnd, middleText, endText, sumsText, pollsText, markText};
+ghost use Rattle.report_text.specs.Pieces.{marksOf, marksText};
 
 // One byte.
 pub fn put_byte(out: &mut [u8], at: usize, b: u8) -> usize

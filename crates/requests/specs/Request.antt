@@ -13,7 +13,15 @@ abbrev pub emptyRequest : Point → Opening
 emptyRequest p = record { measured = record { entered = p; observations = []; priors = record { «muzzle_velocity_fps» = Absent; «ballistic_coefficient» = Absent } }; requested = [] }
 
 abbrev pub withShot : Opening → Observation → Opening
-withShot o x = record { measured = record { entered = o .measured .entered; observations = o .measured .observations ++ (x ∷ []); priors = o .measured .priors }; requested = o .requested }
+withShot o x = record {
+  measured = record {
+    entered = o .measured .entered;
+    observations = o .measured .observations ++
+        (x ∷ []);
+    priors = o .measured .priors;
+  };
+  requested = o .requested;
+}
 
 abbrev pub withPriors : Opening → TruingPriorsV1 → Opening
 withPriors o p = record { measured = record { entered = o .measured .entered; observations = o .measured .observations; priors = p }; requested = o .requested }

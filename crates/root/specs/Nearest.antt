@@ -50,6 +50,7 @@ Farther =
     (b r y : ℕ) → NearestRoot b r
     → (r < y → 4 * exact b < square (magnitude r + magnitude y)) × (y < r → square (magnitude r + magnitude y) < 4 * exact b)
 
--- Theorem `stands`: the double that a pattern is read as is not negative, and its number m * 2 ^ e is the pattern's magnitude: m * up e * 2 ^ 1074 ≡ magnitude b * down e.
+-- Theorem `stands`: the double that a pattern is read as is not negative, and its number m * 2 ^ e is the pattern's magnitude: m * up e * 2 ^ 1074 ≡ magnitude
+-- b * down e.
 abbrev pub Stands : Type 0
 Stands = (b : ℕ) → b < infinity → HasValue (ofBits binary64 b) false (magnitude b) (2 ^ 1074)

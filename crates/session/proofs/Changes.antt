@@ -93,7 +93,8 @@ module _ (s : Session) (x : Change) (row : Row) where
     module _ (w : Wanted) (t : StencilRows) (p : T (placed (editOf x) n)) (f : T (roomy (editOf x) n))
         (list : s .body .wanted .n ≤ 64 → T (placed (editOf x) (s .body .wanted .n)) → T (roomy (editOf x) (s .body .wanted .n))
         → (requestedIn w ≡ edited (editOf x) (requestedIn (s .body .wanted))) × (w .n ≡ sizeAfter (editOf x) (s .body .wanted .n)))
-        (rows : n ≤ 64 → T (placed (editOf x) n) → T (roomy (editOf x) n) → rowsAt (sizeAfter (editOf x) n) t ≡ editedRows (editOf x) (rowsFrom row) (rowsAt n (s .body .rows))) where
+        (rows : n ≤ 64 → T (placed (editOf x) n) → T (roomy (editOf x) n)
+        → rowsAt (sizeAfter (editOf x) n) t ≡ editedRows (editOf x) (rowsFrom row) (rowsAt n (s .body .rows))) where
       new-list : (requestedIn w ≡ edited (editOf x) (requestedIn (s .body .wanted))) × (w .n ≡ sizeAfter (editOf x) (s .body .wanted .n))
       new-list = let g = fits-places p f in list (g .0) (g .1) (g .2)
 
@@ -101,7 +102,8 @@ module _ (s : Session) (x : Change) (row : Row) where
       next-within =
           let m = size-within (editOf x) (s .body .wanted .n) few (fits-places p f .2) in
           let size = new-list .1 in
-          λ i. is-true (leb (s .body .shots .n) 64) (le→leb (s .body .shots .n) 64 (shots-within (s .body) within)) i && is-true (leb (w .n) 64) (le→leb (w .n) 64 (omega arith)) i
+          λ i. is-true (leb (s .body .shots .n) 64) (le→leb (s .body .shots .n) 64 (shots-within (s .body) within)) i && is-true (leb (w .n) 64)
+          (le→leb (w .n) 64 (omega arith)) i
 
       same-size : w .n ≡ sizeAfter (editOf x) n
       same-size = new-list .1 ∙ ap (sizeAfter (editOf x)) (sym (count .places))
@@ -109,7 +111,8 @@ module _ (s : Session) (x : Change) (row : Row) where
       new-rows : rowsAt (w .n) t ≡ editedRows (editOf x) (rowsFrom row) (rowsAt (s .body .wanted .n) (s .body .rows))
       new-rows =
           let g = fits-rows p f in
-          ap (λ (m : ℕ). rowsAt m t) same-size ∙ rows (g .0) (g .1) (g .2) ∙ ap (λ (m : ℕ). editedRows (editOf x) (rowsFrom row) (rowsAt m (s .body .rows))) (count .places)
+          ap (λ (m : ℕ). rowsAt m t) same-size ∙ rows (g .0) (g .1) (g .2)
+          ∙ ap (λ (m : ℕ). editedRows (editOf x) (rowsFrom row) (rowsAt m (s .body .rows))) (count .places)
 
       new-finished : finishedOf (heldOf (withList (s .body) w t)) ≡ renewed (finishedOf (heldOf (s .body))) (editOf x) (rowsFrom row)
       new-finished = λ i. record {
@@ -143,7 +146,8 @@ fitted-none s f = by (state s) (not-standing s f)
     by (standing c) g = let z : _≡_ {A = ℕ} 0 1 = cc in absurd (omega arith)
     by ended g = refl
 
-pub fitted-some : (s : Session) (n : ℕ) → standsIn s ≡ true → BandsCount (s .body .wanted) (s .body .rows) n → some (s .body .progress .point, n) ≡ fittedIn (state s)
+pub fitted-some : (s : Session) (n : ℕ) → standsIn s ≡ true → BandsCount (s .body .wanted) (s .body .rows) n
+    → some (s .body .progress .point, n) ≡ fittedIn (state s)
 fitted-some s n st count =
     ap (λ (m : ℕ). some (s .body .progress .point, m)) (sym (count .requested (wanted-within (s .body) (standing-within s st))))
     ∙ sym (ap fittedIn (is-standing s st))

@@ -49,7 +49,8 @@ use Rattle.session.proofs.Laws.{right-lengths, true-is, is-true, false-
 abbrev evaluationFrom : Body → List Float → List Float → List Float → Evaluated
 evaluationFrom b nominal byMv byBc =
     likelihood.fromSums (b .priors) (b .progress .point)
-    (likelihood.sumsOf (b .progress .point) (observationsOf (take (b .shots .n) (b .shots .ranges)) (b .shots .drops) (b .shots .sigmas)) (zipWith3 likelihood.rowOf nominal byMv byBc))
+    (likelihood.sumsOf (b .progress .point) (observationsOf (take (b .shots .n) (b .shots .ranges)) (b .shots .drops) (b .shots .sigmas))
+    (zipWith3 likelihood.rowOf nominal byMv byBc))
 
 abbrev chiOf : Body → List Float → Float
 chiOf b ds = likelihood.chiSquareOf (observationsOf (b .shots .ranges) (b .shots .drops) (b .shots .sigmas)) ds
@@ -109,14 +110,16 @@ module _ (b : Body) (ds : List Float) (ms : List Bool) (x : Parts) (h : withinOf
 
   abbrev LaidAt : Phase → Type 0
   LaidAt ph =
-      Laid (heldOf b) es (rowsAt (b .shots .n) (rowsWith x)) (rowsAt (b .wanted .n) (rowsWith x)) (take (b .shots .n) (x .predicted)) (baselineIn (bodyWith b x))
+      Laid (heldOf b) es (rowsAt (b .shots .n) (rowsWith x)) (rowsAt (b .wanted .n) (rowsWith x)) (take (b .shots .n) (x .predicted))
+      (baselineIn (bodyWith b x))
       (x .evaluation) (x .found) (x .sum) (x .gap) (x .requested) ph
 
   -- ---- an objective
 
   -- where no entry is missing, the entries of a reply are its drops; and the sum over the whole arrays is that over the observations
   module _ (r : rightLength (b .shots .n) ds ms ≡ true) where
-    drops-sum : (g : ℕ) → readingOf es .gap ≡ g → (q : Point) → valuedFrom g (likelihood.withPriorsOf (b .priors) q (chiOf b ds)) ≡ valuedFrom g (likelihood.objectiveOf (measuredOf b) q (readingOf es .drops))
+    drops-sum : (g : ℕ) → readingOf es .gap ≡ g → (q : Point)
+        → valuedFrom g (likelihood.withPriorsOf (b .priors) q (chiOf b ds)) ≡ valuedFrom g (likelihood.objectiveOf (measuredOf b) q (readingOf es .drops))
     drops-sum zero e q =
         let l = right-lengths (b .shots .n) ds ms r in
         ap (λ (y : Float). valuedFrom 0 (likelihood.withPriorsOf (b .priors) q y))
@@ -153,7 +156,8 @@ module _ (b : Body) (ds : List Float) (ms : List Bool) (x : Parts) (h : withinOf
           gap = (t .gap-is ∙ ap (gapAfter (plan .row) (b .rows .gap)) (t .found-is) ∙ ap (λ (j : ℕ). gapAfter j (b .rows .gap) (readingOf es .gap)) row) i;
         })
         ∙ subst (λ (m : ℕ). takeRows m (laidRows (fiveRow k) p es wholeRows) ≡ rowsNext k p (takeRows m wholeRows) (readingOf es)) (l .0)
-        (rows-laid ds ms (l .0 ∙ sym (l .1)) k p wholeRows (omega (arith, l .0, within, o .ofPredicted)) (omega (arith, l .0, within, o .ofMv)) (omega (arith, l .0, within, o .ofBc)))
+        (rows-laid ds ms (l .0 ∙ sym (l .1)) k p wholeRows (omega (arith, l .0, within, o .ofPredicted)) (omega (arith, l .0, within, o .ofMv))
+        (omega (arith, l .0, within, o .ofBc)))
 
   -- the evaluation is that of the rows
   rows-evaluation : x .evaluation ≡ evaluationFrom b (x .nominal) (x .byMv) (x .byBc)
@@ -162,7 +166,8 @@ module _ (b : Body) (ds : List Float) (ms : List Bool) (x : Parts) (h : withinOf
       sym (q ∙ ap (likelihood.fromSums (b .priors) p)
       (sums-places p (b .shots .ranges) (b .shots .drops) (b .shots .sigmas) (x .nominal) (x .byMv) (x .byBc) (b .shots .n)))
 
-  five-laid : (stage : Stage) (k : ℕ) → rightLength (b .shots .n) ds ms ≡ true → Steps b ds ms (planOf (Evaluation stage k) (b .entered)) x → LaidAt (Evaluation stage k)
+  five-laid : (stage : Stage) (k : ℕ) → rightLength (b .shots .n) ds ms ≡ true → Steps b ds ms (planOf (Evaluation stage k) (b .entered)) x
+      → LaidAt (Evaluation stage k)
   five-laid stage k r t = record {
     laid = rows-next (b .shots .n) k (shots-within b h) r (planOf (Evaluation stage k) (b .entered)) refl t;
     gap-is = refl;
@@ -195,7 +200,12 @@ module _ (b : Body) (ds : List Float) (ms : List Bool) (x : Parts) (h : withinOf
   abbrev present : Bool → List Float → Option Baseline
   present t drops =
       let m = measuredOf b in
-      cond t (some (record { entered = m .entered; chiSquare = likelihood.chiSquareOf (m .observations) drops; observations = resultsOf (m .observations) drops })) none
+      cond t (some (record {
+        entered = m .entered;
+        chiSquare = likelihood.chiSquareOf (m .observations) drops;
+        observations = resultsOf
+            (m .observations) drops;
+      })) none
 
   -- there is one where no drop is missing and the sum is finite
   judged : (drops : List Float) (gap : ℕ) (chi : Float) → (gap ≡ 0 → chi ≡ likelihood.chiSquareOf (measuredOf b .observations) drops)
@@ -214,21 +224,29 @@ module _ (b : Body) (ds : List Float) (ms : List Bool) (x : Parts) (h : withinOf
       λ z. chi-square-places (b .shots .ranges) (b .shots .drops) (b .shots .sigmas) ds (b .shots .n) (omega (arith, l .0))
       ∙ ap (likelihood.chiSquareOf (measuredOf b .observations)) (sym (entries-drops ds ms same (sym (t .found-is) ∙ z))) in
       ap (λ (n : ℕ). present (x .has) (take n (x .baseline))) (sym (l .0))
-      ∙ ap (present (x .has)) (ap (take (length ds)) (t .baseline-is) ∙ over-laid ds ms same (b .baseline) (omega (arith, l .0, shots-within b h, t .places .ofBaseline)))
+      ∙ ap (present (x .has)) (ap (take (length ds)) (t .baseline-is)
+      ∙ over-laid ds ms same (b .baseline) (omega (arith, l .0, shots-within b h, t .places .ofBaseline)))
       ∙ ap (λ (y : Bool). present y drops) (t .has-is)
       ∙ judged drops (x .found) (chiOf b ds) summed
       ∙ ap (λ (g : ℕ). baselineAt (measuredOf b) g drops) (t .found-is)
 
   baseline-laid : rightLength (b .shots .n) ds ms ≡ true → Steps b ds ms (planOf Phase.Baseline (b .entered)) x → LaidAt Phase.Baseline
   baseline-laid r t = record {
-    bands-kept = λ i. record { predicted = take (b .wanted .n) (t .nominal-is i); byMv = take (b .wanted .n) (t .mv-is i); byBc = take (b .wanted .n) (t .bc-is i); gap = t .gap-is i };
+    bands-kept = λ i. record {
+      predicted = take (b .wanted .n) (t .nominal-is i);
+      byMv = take (b .wanted .n) (t .mv-is i);
+      byBc = take (b .wanted .n)
+          (t .bc-is i);
+      gap = t .gap-is i;
+    };
     kept = ap (take (b .shots .n)) (t .predicted-is);
     laid = stored-baseline r t;
   }
 
   -- ---- by which question was open
 
-  pub laid-at : (ph : Phase) → planOf ph (b .entered) .asks ≡ true → rightLength (cond (planOf ph (b .entered) .«of_requested») (b .wanted .n) (b .shots .n)) ds ms ≡ true
+  pub laid-at : (ph : Phase) → planOf ph (b .entered) .asks ≡ true
+      → rightLength (cond (planOf ph (b .entered) .«of_requested») (b .wanted .n) (b .shots .n)) ds ms ≡ true
       → Steps b ds ms (planOf ph (b .entered)) x → LaidAt ph
   laid-at Over a r t = false-is a
   laid-at Start a r t = value-is r (b .entered) (t .found-is) (t .sum-is)
@@ -301,7 +319,8 @@ module _ (s : Session) (ds : List Float) (ms : List Bool) where
       let a = number-taken (withinOf (s .body) && plan .asks) (rightLength wanted ds ms) n e z in
       let w = and-both (withinOf (s .body)) (plan .asks) (a .0) in
       let h = heldOf (s .body) in
-      let led = taken h (entriesOf ds ms) (rowsAt (s .body .shots .n) (rowsWith x)) (rowsAt (s .body .wanted .n) (rowsWith x)) (take (s .body .shots .n) (x .predicted)) (baselineIn (bodyWith (s .body) x))
+      let led = taken h (entriesOf ds ms) (rowsAt (s .body .shots .n) (rowsWith x)) (rowsAt (s .body .wanted .n) (rowsWith x))
+      (take (s .body .shots .n) (x .predicted)) (baselineIn (bodyWith (s .body) x))
       (x .evaluation) (x .found) (x .sum) (x .gap) (x .requested) (s .phase) next (laid-at (s .body) ds ms x (w .0) (s .phase) (w .1) (a .1) t) v in
       reply-taken seen s (next .step) (sessionWith s x next asked) ds ms none (pointOf h (s .phase)) (whichOf (s .phase)) (continueAt h (s .phase))
       (state-within s (w .0) ∙ open-state h (s .phase) (s .body .entered) (w .1)) (right-wants ∙ a .1)

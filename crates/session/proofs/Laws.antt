@@ -87,7 +87,8 @@ closed s e = by (withinOf (s .body)) refl
     by true h =
         let asks : planOf (s .phase) (s .body .entered) .asks ≡ false =
         ap (λ (w : Bool). w && planOf (s .phase) (s .body .entered) .asks) (sym h) ∙ e in
-        subst Closed (sym (state-within s h ∙ closed-state (heldOf (s .body)) (s .phase) (s .body .entered) asks)) (closed-as (planOf (s .phase) (s .body .entered) .stands) s)
+        subst Closed (sym (state-within s h ∙ closed-state (heldOf (s .body)) (s .phase) (s .body .entered) asks))
+        (closed-as (planOf (s .phase) (s .body .entered) .stands) s)
 
 -- ---- the number by which a reply is declined
 

@@ -98,7 +98,8 @@ module _ (entered : Point) (ranges drops sigmas : List Float) (priors : TruingPr
         omega (arith, few-requested)
 
     within : withinOf b ≡ true
-    within = λ i. is-true (leb (b .shots .n) 64) (le→leb (b .shots .n) 64 shots-within) i && is-true (leb (b .wanted .n) 64) (le→leb (b .wanted .n) 64 wanted-within) i
+    within = λ i. is-true (leb (b .shots .n) 64) (le→leb (b .shots .n) 64 shots-within) i && is-true (leb (b .wanted .n) 64)
+        (le→leb (b .wanted .n) 64 wanted-within) i
 
     measured-is : measuredOf b ≡ o .measured
     measured-is = λ i. record {
@@ -111,13 +112,15 @@ module _ (entered : Point) (ranges drops sigmas : List Float) (priors : TruingPr
     requested-is = ap requestedIn (p .wanted) ∙ wanted-requested distances future given few-requested (requested-sound (o .requested) (checked-parts o q .1))
 
     whole-is : whole.run (measuredOf b) (requestedIn (b .wanted)) ≡ whole.whole o
-    whole-is = (λ i. whole.run (measured-is i) (requested-is i)) ∙ ap (λ (t : Run (Unit {0})). bind t (λ u. whole.run (o .measured) (o .requested))) (sym q) ∙ checked-run
+    whole-is = (λ i. whole.run (measured-is i) (requested-is i)) ∙ ap (λ (t : Run (Unit {0})). bind t (λ u. whole.run (o .measured) (o .requested))) (sym q)
+        ∙ checked-run
 
     asks : Opened seen o (Question (entered .mv) (entered .bc) Distances.Shots) (record { body = b; phase = Start; asked = 1 })
     asks = record {
       is = record {
         leads = state-within (record { body = b; phase = Start; asked = 1 }) within ∙ ap (after none) whole-is;
-        says = ap (λ (x : Point). Question (x .mv) (x .bc) Distances.Shots) (sym (p .point)) ∙ first-head (measuredOf b) (requestedIn (b .wanted)) ∙ ap head whole-is;
+        says = ap (λ (x : Point). Question (x .mv) (x .bc) Distances.Shots) (sym (p .point)) ∙ first-head (measuredOf b) (requestedIn (b .wanted))
+            ∙ ap head whole-is;
         counts = first-count (measuredOf b) (requestedIn (b .wanted)) ∙ ap (counted none 0) whole-is;
         sized = sizes-for;
       };

@@ -86,7 +86,8 @@ module _ (b : Body) (h : UncertaintyTruingReportV1) (n m : ℕ) (baseline : Base
     has-outside = sym (is-outside (shots-within b w) (wanted-within b w));
   }
 
-  seen : reportOf (finishedOf (heldOf b)) ≡ seenOf h (resultsAt (b .shots) (b .predicted)) (resultsAt (b .shots) (b .baseline)) (bandsAt (approximationSays (h .approximation)) (b .wanted) (b .rows))
+  seen : reportOf (finishedOf (heldOf b)) ≡ seenOf h (resultsAt (b .shots) (b .predicted)) (resultsAt (b .shots) (b .baseline))
+      (bandsAt (approximationSays (h .approximation)) (b .wanted) (b .rows))
   seen = shows .whole (finishedOf (heldOf b)) (resultsAt (b .shots) (b .baseline)) parts
 
   pub head-of : HeadOf h (reportOf (finishedOf (heldOf b)))
@@ -95,7 +96,8 @@ module _ (b : Body) (h : UncertaintyTruingReportV1) (n m : ℕ) (baseline : Base
     results = shows .results ∙ sym (ap (λ (p : Report). length (p .observations)) seen ∙ results .results (shots-within b w));
     baseline-results =
         let l = at-most (h .baseline) (resultsAt (b .shots) (b .baseline)) in
-        let e : length (ofBaseline (reportOf (finishedOf (heldOf b)) .baseline)) ≡ length (ofBaseline (baselineSays (h .baseline) (resultsAt (b .shots) (b .baseline)))) =
+        let e : length (ofBaseline (reportOf (finishedOf (heldOf b)) .baseline)) ≡ length
+        (ofBaseline (baselineSays (h .baseline) (resultsAt (b .shots) (b .baseline)))) =
         ap (λ (p : Report). length (ofBaseline (p .baseline))) seen in
         let k = results .entered (shots-within b w) in
         let m = shows .results in
@@ -115,7 +117,8 @@ module _ (s : Session) where
   place-none : {A : Type 0} (f : Report → List A) (i : ℕ) → standsIn s ≡ false → none ≡ placeIn f i (reportIn (state s))
   place-none f i e = sym (ap (placeIn f i) (not-standing s e))
 
-  place-at : {A : Type 0} (f : Report → List A) (i : ℕ) → standsIn s ≡ true → nth i (f (reportOf (finishedOf (heldOf (s .body))))) ≡ placeIn f i (reportIn (state s))
+  place-at : {A : Type 0} (f : Report → List A) (i : ℕ) → standsIn s ≡ true
+      → nth i (f (reportOf (finishedOf (heldOf (s .body))))) ≡ placeIn f i (reportIn (state s))
   place-at f i e = sym (ap (placeIn f i) (report-stands s e))
 
   pub no-result : (i : ℕ) → standsIn s ≡ false → ResultRead (state s) i ResultAt.Absent
@@ -135,7 +138,8 @@ module _ (s : Session) where
   unfolding reportOf of-body
   without-baseline i e f = record { is = sym (ap (λ (t : Bool). nth i (of-body t)) f) ∙ place-at baselineResults i e }
 
-  pub a-baseline-result : (i : ℕ) (r : ResultAt) → standsIn s ≡ true → s .body .«has_baseline» ≡ true → resultSays r ≡ nth i (resultsAt (s .body .shots) (s .body .baseline))
+  pub a-baseline-result : (i : ℕ) (r : ResultAt) → standsIn s ≡ true → s .body .«has_baseline» ≡ true
+      → resultSays r ≡ nth i (resultsAt (s .body .shots) (s .body .baseline))
       → BaselineResultRead (state s) i r
   unfolding reportOf of-body
   a-baseline-result i r e f d = record { is = d ∙ sym (ap (λ (t : Bool). nth i (of-body t)) f) ∙ place-at baselineResults i e }
@@ -144,7 +148,8 @@ module _ (s : Session) where
   no-band i e = record { is = place-none (λ p. p .bands) i e }
 
   pub a-band : (i : ℕ) (r : BandAt) (a : TruingApproximationV1) → standsIn s ≡ true
-      → approximationSays a ≡ summary.approximationOf (summary.converged (convergenceOf (s .body .progress .convergence))) (s .body .progress .point) (s .body .progress .evaluation .«posterior_information»)
+      → approximationSays a ≡ summary.approximationOf (summary.converged (convergenceOf (s .body .progress .convergence))) (s .body .progress .point)
+      (s .body .progress .evaluation .«posterior_information»)
       → bandAtSays r ≡ nth i (bandsAt (approximationSays a) (s .body .wanted) (s .body .rows)) → BandRead (state s) i r
   unfolding reportOf
   a-band i r a e q d = record {

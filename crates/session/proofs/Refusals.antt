@@ -46,7 +46,8 @@ module _ (s : Session) (plan : Plan) (within : Bool) (p : plan ≡ planOf (s .ph
     is-open : (withinOf (s .body) ≡ true) × (planOf (s .phase) (s .body .entered) .asks ≡ true)
     is-open = and-both (withinOf (s .body)) (planOf (s .phase) (s .body .entered) .asks) (sym asks-is ∙ not-false (within && plan .asks) n)
 
-    ends : (b : Bool) → eqb (plan .row) 5 ≡ b → continueAt (heldOf (s .body)) (s .phase) refused ≡ cond b (done (finishedWith (heldOf (s .body)) none)) (refuse 10 0)
+    ends : (b : Bool) → eqb (plan .row) 5 ≡ b → continueAt (heldOf (s .body)) (s .phase) refused ≡ cond b (done (finishedWith (heldOf (s .body)) none))
+        (refuse 10 0)
     ends b e =
         refusal-ends (heldOf (s .body)) (s .phase) (s .body .entered) (is-open .1)
         ∙ ap (λ (t : Bool). cond t (done (finishedWith (heldOf (s .body)) none)) (refuse 10 0)) (ap (λ (y : Plan). eqb (y .row) 5) (sym p) ∙ e)

@@ -78,7 +78,8 @@ countedBy Report n = n
 countedBy (Refused number position) n = n
 
 -- a body that holds the request, before the first question
-pub record Prepared (entered : Point) (ranges drops sigmas : List Float) (priors : TruingPriorsV1) (distances future : List Float) (given : List Bool) (b : Body) : Type 0 where
+pub record Prepared (entered : Point) (ranges drops sigmas : List Float) (priors : TruingPriorsV1) (distances future : List Float) (given : List Bool)
+    (b : Body) : Type 0 where
   pub point : b .entered ≡ entered
   pub shots : b .shots ≡ shotsFrom ranges drops sigmas
   pub prior : b .priors ≡ priors

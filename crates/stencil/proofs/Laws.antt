@@ -14,7 +14,8 @@ use Rattle.definition.specs.declared.Point.{Point}
 use Rattle.definition.specs.Session.{entriesOf}
 use Rattle.slices.specs.Slices.{laidOver}
 use Rattle.likelihood.proofs.Laws.{over-length, over-take, over-zip, drops-length}
-use Rattle.stencil.specs.Stencil.{stencil, stencilNext, pointAt, rowsNext, fiveRow, laidIf, laidPair, nominalLaid, mvLaid, bcLaid, laidRows, gapAfter, oneRows}
+use Rattle.stencil.specs.Stencil.{stencil, stencilNext, pointAt, rowsNext, fiveRow, laidIf, laidPair, nominalLaid, mvLaid, bcLaid, laidRows, gapAfter}
+use Rattle.stencil.specs.Stencil.{oneRows}
 use Rattle.stencil.specs.declared.OneRow.{OneRow}
 
 -- ---- which of the five
@@ -52,7 +53,8 @@ module _ (ds : List Float) (ms : List Bool) (same : length ds ≡ length ms) whe
   laid a l = let n = drops-length ds ms in over-take (map dropOr0 (entriesOf ds ms)) a (length ds) (omega arith) (omega arith)
 
   sloped : (step : Float) (a : List Float) → length ds ≤ length a
-      → take (length ds) (laidOver (likelihood.slopes step a (map dropOr0 (entriesOf ds ms))) a) ≡ likelihood.slopes step (take (length ds) a) (readingOf (entriesOf ds ms) .drops)
+      → take (length ds) (laidOver (likelihood.slopes step a (map dropOr0 (entriesOf ds ms))) a) ≡ likelihood.slopes step (take (length ds) a)
+      (readingOf (entriesOf ds ms) .drops)
   sloped step a l = let n = drops-length ds ms in over-zip (likelihood.slope step) a (map dropOr0 (entriesOf ds ms)) (length ds) (omega arith) (omega arith)
 
   pub rows-laid : (k : ℕ) (p : Point) (r : Rows) → length ds ≤ length (r .predicted) → length ds ≤ length (r .byMv) → length ds ≤ length (r .byBc)

@@ -1,4 +1,5 @@
--- The five questions about a list of distances (`truing_jacobian_rows`), one after another: what is left of them before each reply, and the rows with one reply more.
+-- The five questions about a list of distances (`truing_jacobian_rows`), one after another: what is left of them before each reply, and the rows with one reply
+-- more.
 use Prim.Native.Nat.{ℕ, zero, suc}
 use mathlib.Core.Bool.{Bool, cond}
 use mathlib.Core.List.{List, [], _∷_, map}
@@ -37,10 +38,22 @@ abbrev pub rowsNext : ℕ → Point → Rows → Reading → Rows
 rowsNext zero p r d = record { predicted = d .drops; byMv = r .byMv; byBc = r .byBc; gap = d .gap }
 rowsNext (suc zero) p r d = record { predicted = r .predicted; byMv = d .drops; byBc = r .byBc; gap = firstOf (r .gap) (d .gap) }
 rowsNext (suc (suc zero)) p r d =
-    record { predicted = r .predicted; byMv = likelihood.slopes (likelihood.mvStepOf (p .mv)) (r .byMv) (d .drops); byBc = r .byBc; gap = firstOf (r .gap) (d .gap) }
+    record {
+      predicted = r .predicted;
+      byMv = likelihood.slopes (likelihood.mvStepOf (p .mv)) (r .byMv) (d .drops);
+      byBc = r .byBc;
+      gap = firstOf (r .gap)
+          (d .gap);
+    }
 rowsNext (suc (suc (suc zero))) p r d = record { predicted = r .predicted; byMv = r .byMv; byBc = d .drops; gap = firstOf (r .gap) (d .gap) }
 rowsNext (suc (suc (suc (suc k)))) p r d =
-    record { predicted = r .predicted; byMv = r .byMv; byBc = likelihood.slopes (likelihood.bcStepOf (p .bc)) (r .byBc) (d .drops); gap = firstOf (r .gap) (d .gap) }
+    record {
+      predicted = r .predicted;
+      byMv = r .byMv;
+      byBc = likelihood.slopes (likelihood.bcStepOf (p .bc)) (r .byBc) (d .drops);
+      gap = firstOf (r .gap)
+          (d .gap);
+    }
 
 -- what follows the k-th reply
 abbrev pub stencilNext : ℕ → Point → Which → Rows → Run Rows

@@ -42,15 +42,15 @@ abbrev page : List (List ℕ) → List ℕ
 page [] = []
 page (l ∷ ls) = l ++ (10 ∷ page ls)
 
-asks-first : outputOf (page (bytes "(editQuestions)" ∷ [])) ≡ page (bytes "(editQuestions 0)" ∷ [])
+asks-first : outputOf (page (bytes "(asked)" ∷ [])) ≡ page (bytes "(asked 0)" ∷ [])
 unfolding lines doubles fits runs
 asks-first = refl
 
-none-of-the-forms : outputOf (page (bytes "(refused)" ∷ bytes "(editQuestions )" ∷ [])) ≡ page (bytes "(declined 8 0)" ∷ bytes "(malformed 2)" ∷ [])
+none-of-the-forms : outputOf (page (bytes "(refused)" ∷ bytes "(asked )" ∷ [])) ≡ page (bytes "(declined 8 0)" ∷ bytes "(malformed 2)" ∷ [])
 unfolding lines doubles fits runs
 none-of-the-forms = refl
 
-unended-line : outputOf (page (bytes "(take-out 1)" ∷ []) ++ bytes "(editQuestions)") ≡ page (bytes "(declined 14 0)" ∷ bytes "(malformed 2)" ∷ [])
+unended-line : outputOf (page (bytes "(take-out 1)" ∷ []) ++ bytes "(asked)") ≡ page (bytes "(declined 14 0)" ∷ bytes "(malformed 2)" ∷ [])
 unfolding lines doubles fits runs
 unended-line = refl
 

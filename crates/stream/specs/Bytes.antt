@@ -77,7 +77,8 @@ pub record Scans (r : Reader) (bytes : List ℕ) (at : ℕ) (q : Scanned) : Type
 -- after these bytes of a line
 abbrev pub outputFrom : Conversation → List ℕ → List ℕ → Text
 outputFrom t s [] = unended t s
-outputFrom t s (c ∷ b) = cond (eqb c 10) (textOf (answerTo (nextLine t) (formOf s)) ++ outputFrom (answerTo (nextLine t) (formOf s) .0) [] b) (outputFrom t (s ++ (c ∷ [])) b)
+outputFrom t s (c ∷ b) = cond (eqb c 10) (textOf (answerTo (nextLine t) (formOf s)) ++ outputFrom (answerTo (nextLine t) (formOf s) .0) [] b)
+    (outputFrom t (s ++ (c ∷ [])) b)
 
 pub record Holds (h : State) (t : Conversation) (s : List ℕ) : Type 0 where
   pub conversation : Tracks (h .conversation) t
@@ -92,7 +93,8 @@ pub record Goes (bytes : List ℕ) (at : ℕ) (out after : Text) (r : Fed) (t : 
   pub fills : Fills out after (r .len) text
   pub same : (more : List ℕ) → outputFrom t s (drop at bytes ++ more) ≡ text ++ outputFrom conversation line (drop (r .at) bytes ++ more)
 
--- The contract of `feed`. A state that `begin` and `feed` did not give, whose fields no host can set, holds no conversation: of it only that the buffer keeps its room, and
+-- The contract of `feed`. A state that `begin` and `feed` did not give, whose fields no host can set, holds no conversation: of it only that the buffer keeps
+-- its room, and
 -- that the bytes are gone on with, is promised.
 pub record Feeds (h : State) (bytes : List ℕ) (at : ℕ) (out after : Text) (r : Fed) : Type 0 where
   pub room : length after ≡ length out

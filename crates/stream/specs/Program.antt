@@ -1,4 +1,5 @@
--- What a program has written that hands its input to `feed` in pieces, each until it is used up, writes out what each call left in the buffer, and ends with `finish`.
+-- What a program has written that hands its input to `feed` in pieces, each until it is used up, writes out what each call left in the buffer, and ends with
+-- `finish`.
 use mathlib.Core.Path.{_≡_}
 use mathlib.Core.List.{List, [], _∷_, _++_}
 use Prim.Native.Nat.{ℕ, _≤_}
@@ -54,7 +55,8 @@ abbrev pub allWritten : List Piece → Text
 allWritten [] = []
 allWritten (p ∷ ps) = written (p .calls) ++ allWritten ps
 
--- Theorem `output`: however the input is cut into pieces, what is written for it, from a state that `begin` gave to what `finish` leaves, is what the definition says.
+-- Theorem `output`: however the input is cut into pieces, what is written for it, from a state that `begin` gave to what `finish` leaves, is what the
+-- definition says.
 abbrev pub Output : Type 0
 Output =
     (h : State) → Holds h initial [] → (ps : List Piece) → InputFed h ps → (out after : Text) (n : ℕ) → Finishes (lastState h ps) out after n

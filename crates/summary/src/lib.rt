@@ -17,7 +17,8 @@ use matrix::Inverse;
 use matrix::Symmetric2;
 ghost use mathlib.Core.Path.{_≡_};
 ghost use Rattle.definition.specs.Fit.{gradientNormOf};
-ghost use Rattle.definition.specs.Summary.{resultOf, interval95, covarianceOf, correlationOf, withIntervals, buildApproximationOf, approximationOf, effectiveCountOf, effectiveCount, degreesOfFreedom, reducedChiSquare, criterion, pollRadius, pollImprovement};
+ghost use Rattle.definition.specs.Summary.{resultOf, interval95, covarianceOf, correlationOf, withIntervals, buildApproximationOf, approximationOf};
+ghost use Rattle.definition.specs.Summary.{effectiveCountOf, effectiveCount, degreesOfFreedom, reducedChiSquare, criterion, pollRadius, pollImprovement};
 ghost use Rattle.definition.specs.Meaning.{numberOf, convergenceOf, approximationSays, observationOf};
 ghost use Rattle.summary.specs.Summary.{criterionSays, diagnosticsSays, diagnosticsBy};
 

@@ -7,7 +7,8 @@ use lib.Ieee.{Float, inf, lt}
 use Rattle.numeric.specs.Numeric.{finite}
 use Rattle.definition.specs.Constants.{leastSensitivityRatio, largestCondition}
 use Rattle.definition.specs.Mesh.{Convergence}
-use Rattle.definition.specs.Summary.{Approximation, nearer, farther, dominatedOf, crossesBoundsOf, converged, isMesh, isUnavailable, whereAvailable, atMostOne, warn}
+use Rattle.definition.specs.Summary.{Approximation, nearer, farther, dominatedOf, crossesBoundsOf, converged, isMesh, isUnavailable, whereAvailable, atMostOne}
+use Rattle.definition.specs.Summary.{warn}
 use Rattle.definition.specs.declared.Prior.{Prior}
 use Rattle.definition.specs.declared.TruingPriorsV1.{TruingPriorsV1}
 use Rattle.definition.specs.declared.Evaluation.{Evaluation}
@@ -61,6 +62,7 @@ intervalCrossesOf a = whereAvailable (λ g. crossesBoundsOf (g .«muzzle_velocit
 -- the warnings, by the convergence, the degrees of freedom and whether a requested distance is outside
 unfoldable pub warningsBy : Convergence → Evaluation → TruingPriorsV1 → Approximation → Option Float → Bool → List TruingUncertaintyWarningCodeV1
 warningsBy convergence e priors a dof outside =
-    codes (not (converged convergence)) (isMesh convergence) (lt (e .«bc_sensitivity_ratio») leastSensitivityRatio) (illConditionedOf (e .«data_condition_number»))
+    codes (not (converged convergence)) (isMesh convergence) (lt (e .«bc_sensitivity_ratio») leastSensitivityRatio)
+    (illConditionedOf (e .«data_condition_number»))
     (mvDominatedOf (priors .«muzzle_velocity_fps») a) (bcDominatedOf (priors .«ballistic_coefficient») a) (isUnavailable a) (intervalCrossesOf a)
     (atMostOne dof) outside

@@ -10,7 +10,8 @@ ghost use mathlib.Core.Path.{_≡_};
 ghost use Rattle.definition.specs.Lists.{any};
 ghost use Rattle.definition.specs.Summary.{converged, nearer, farther, dominatedOf, crossesBoundsOf, isMesh, isUnavailable, atMostOne};
 ghost use Rattle.definition.specs.Meaning.{numberOf, convergenceOf, approximationSays};
-ghost use Rattle.warnings.specs.Warnings.{nearestOf, farthestOf, outsideOf, illConditionedOf, mvDominatedOf, bcDominatedOf, intervalCrossesOf, codesOf, warningsBy};
+ghost use Rattle.warnings.specs.Warnings.{nearestOf, farthestOf, outsideOf, illConditionedOf, mvDominatedOf, bcDominatedOf, intervalCrossesOf, codesOf};
+ghost use Rattle.warnings.specs.Warnings.{warningsBy};
 
 const TRUING_MIN_BC_SENSITIVITY_RATIO: f64 = 0.2;
 

@@ -100,7 +100,8 @@ pub struct WordText {
     pub len: usize,
 }
 
-// A row has 32 bytes: a word, and blanks behind it. An array that a function names is built where it is named, so it is made once for each search and then lent.
+// A row has 32 bytes: a word, and blanks behind it. An array that a function names is built where it is named, so it is made once for each search and then
+// lent.
 fn table() -> [u8; 1344]
     ensures { λ r. ⌜ r ≡ tableOf words ⌝ }
 {

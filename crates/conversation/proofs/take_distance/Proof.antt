@@ -31,7 +31,8 @@ returns-2 : tie.Need-returns-2
 unfolding answerTo
 returns-2 c =
     λ u k. let a = c .before .before .before .before .before .args in timely k takesDistance (collected u Distances (withDistance (u .request)
-    (requestedWith (a .range) (numberOf (a .sigma))))) _ (c .before .before .before .before .is-collecting .ensures) (not-false _ (c .before .before .before .if1 .left))
+    (requestedWith (a .range) (numberOf (a .sigma))))) _ (c .before .before .before .before .is-collecting .ensures)
+    (not-false _ (c .before .before .before .if1 .left))
     (c .collected .ensures u _ k (c .before .with-wanted .ensures (u .request) (k .request)))
 
 pub take-distance-spec : {M : Type 1} → statement M

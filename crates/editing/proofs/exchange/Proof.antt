@@ -56,7 +56,8 @@ returns-2 c =
     let at-p = at-is-placed .before .before .before in
     let at-standing-fit = at-p .before .before in
     let start = at-standing-fit .before .before in
-    faulty-exchange (start .args .s) (at-standing-fit .standing-fit .result) (at-standing-fit .standing-fit .ensures) _ _ (at-p .p .given .1) (start .args .place)
+    faulty-exchange (start .args .s) (at-standing-fit .standing-fit .result) (at-standing-fit .standing-fit .ensures) _ _ (at-p .p .given .1)
+    (start .args .place)
     (requestedOf (start .args .range) (start .args .sigma)) _
     (sym (at-is-placed .is-placed .ensures) ∙ not-false _ (at-if1 .if1 .left))
     (failed _ _ (at-is-sound-requested .is-sound-requested .ensures) (at-if2 .if2 .taken)) (c .closed-with .ensures)
@@ -83,7 +84,8 @@ returns-4 c =
     let at-p = at-stored-sigma .before .before in
     let at-standing-fit = at-p .before .before in
     let start = at-standing-fit .before .before in
-    begins-exchange (start .args .s) (at-standing-fit .standing-fit .result) (at-standing-fit .standing-fit .ensures) _ _ (at-p .p .given .1) (start .args .place)
+    begins-exchange (start .args .s) (at-standing-fit .standing-fit .result) (at-standing-fit .standing-fit .ensures) _ _ (at-p .p .given .1)
+    (start .args .place)
     (start .args .range) (start .args .sigma) (at-stored-sigma .stored-sigma .result) _ (at-stored-sigma .stored-sigma .ensures)
     (sym (at-is-placed .is-placed .ensures) ∙ not-false _ (at-if1 .if1 .left))
     (sym (at-is-sound-requested .is-sound-requested .ensures) ∙ not-false _ (at-if2 .if2 .left)) (c .begin .ensures)

@@ -14,7 +14,17 @@ five-row-requires c κs = search needs
 returns : tie.Need-returns
 returns c =
     let a = c .before .args in
-    ap (λ (row : ℕ). record { asks = true; «of_requested» = a .of-requested; stands = false; row = row; objective = false; point = a .entered; last = not (a .of-requested) && leb 4 (a .k); «at_fit» = a .at-fit }) (c .five-row .ensures)
+    ap (λ (row : ℕ). record {
+      asks = true;
+      «of_requested» = a .of-requested;
+      stands = false;
+      row = row;
+      objective = false;
+      point = a .entered;
+      last = not
+          (a .of-requested) && leb 4 (a .k);
+      «at_fit» = a .at-fit;
+    }) (c .five-row .ensures)
 
 pub five-asked-spec : {M : Type 1} → statement M
 five-asked-spec = tie.close (tie.spec five-row-requires returns)

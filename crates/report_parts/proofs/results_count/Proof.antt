@@ -22,7 +22,8 @@ long-given : (c : tie.Start) → length (c .args .drops) ≡ 64
 long-given c = search needs
 
 returns : tie.Need-returns
-returns c = counts-results (c .args .shots) (long-ranges c) (long-drops c) (long-sigmas c) (c .args .predicted) (c .args .drops) (long-predicted c) (long-given c)
+returns c = counts-results (c .args .shots) (long-ranges c) (long-drops c) (long-sigmas c) (c .args .predicted) (c .args .drops) (long-predicted c)
+    (long-given c)
 
 pub results-count-spec : {M : Type 1} → statement M
 results-count-spec = tie.close (tie.spec returns)
