@@ -8,6 +8,13 @@ import os, re, struct, subprocess, sys
 
 here = os.path.dirname(os.path.abspath(__file__))
 oracle = os.path.join(here, 'target', 'release', 'oracle')
+if sys.argv[1:] in (['-h'], ['--help']):
+    print(__doc__)
+    sys.exit()
+if sys.argv[1:]:
+    sys.exit(f'{sys.argv[0]}: takes no argument but --help')
+if not os.access(oracle, os.X_OK):
+    sys.exit(f'{sys.argv[0]}: the oracle is missing; compare/run builds it, e.g. compare/run 2000 --oracle')
 figures = open(os.path.join(here, '..', 'crates', 'definition', 'specs', 'RunFigures.antt'), encoding='utf-8').read()
 
 

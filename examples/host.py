@@ -55,7 +55,10 @@ class Truing:
     def answer(self, new=None):
         """Replies to questions until something else is answered, and gives that."""
         while True:
-            said = parsed(self.pipe.stdout.readline())
+            line = self.pipe.stdout.readline()
+            if not line.startswith("("):
+                sys.exit("the program does not answer with a line of the protocol, but with %r" % line)
+            said = parsed(line)
             if said[0] != "question":
                 return said
             _, about, speed, coefficient = said
@@ -88,8 +91,10 @@ def main():
     if sys.argv[1:] in (["-h"], ["--help"]):
         print(__doc__)
         return
+    if len(sys.argv) > 2:
+        sys.exit("%s: takes one program; --help says more" % sys.argv[0])
     program = sys.argv[1] if len(sys.argv) > 1 else "target/bin/truing"
-    if not os.access(program, os.X_OK):
+    if not os.access(program, os.X_OK) or os.path.isdir(program):
         sys.exit("%s is missing: 'rt check truing' makes target/bin/truing" % program)
     shots = [100.0, 200.0, 300.0, 400.0, 500.0]
     truing = Truing(program, shots, [350.0])
@@ -118,4 +123,7 @@ def main():
 
 
 if __name__ == "__main__":
-    main()
+    try:
+        main()
+    except BrokenPipeError:
+        sys.exit("the program ended before the conversation did")

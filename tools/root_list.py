@@ -5,13 +5,15 @@ usage, from the repository's root:  tools/root_list.py [--figures]
 Each root of a positive finite double is also worked out over whole numbers, and the script fails where the two differ. --figures prints the
 entries of the table in crates/root/proofs/Figures.antt instead.
 """
-import math, random, struct, sys
+import math, os, random, struct, sys
 
 if sys.argv[1:] in (['-h'], ['--help']):
     print(__doc__)
     sys.exit()
 if sys.argv[1:] not in ([], ['--figures']):
     sys.exit(f'{sys.argv[0]}: no such argument; --help says what it takes')
+if not os.path.isdir('crates/root_list'):
+    sys.exit(f"{sys.argv[0]}: there is no crates/root_list here; run it from the repository's root")
 
 NAN, INFINITY, SIGN, FIELD = 0x7FF8000000000000, 0x7FF0000000000000, 1 << 63, 1 << 52
 

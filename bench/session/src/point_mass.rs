@@ -52,7 +52,7 @@ fn fly(k: f64, x: f64, start: Flight) -> Option<f64> {
     None
 }
 
-/// The drop in inches at a distance in yards, if the bullet gets there.
+/// The drop in inches at a distance in yards, if the slug gets there.
 pub fn drop_at(mv: f64, bc: f64, yards: f64) -> Option<f64> {
     if !is_sane(mv, bc) || yards <= 0.0 || yards.is_nan() {
         return None;

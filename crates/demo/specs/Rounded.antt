@@ -22,12 +22,12 @@ unfoldable pub roundedOf : Float → ℕ → Decimal
 roundedOf x unit =
     cond (lt (neg one64) (raised x unit) && lt (raised x unit) (ofBits binary64 0x43f0_0000_0000_0000)) (fixed x unit (toUnsigned 64 (raised x unit))) Unfit
 
--- Theorem `figures`, in proofs/Figures.antt, by computation. In thousandths: −12.3456 is −12.346, −0.0004 is 0.000 with no sign, and 1e300, an infinity and a
+-- Theorem `figures`, in proofs/Figures.antt, by computation. In hundredths: −12.3456 is −12.35, −0.004 is 0.00 with no sign, and 1e300, an infinity and a
 -- not-a-number are unfit.
 abbrev pub Figures : Type 0
 Figures =
-    (roundedOf (ofBits binary64 0xc028_b0f2_7bb2_fec5) 1000 ≡ Fixed true 12 346)
-    × (roundedOf (ofBits binary64 0xbf3a_36e2_eb1c_432d) 1000 ≡ Fixed false 0 0)
-    × (roundedOf (ofBits binary64 0x7e37_e43c_8800_759c) 1000 ≡ Unfit)
-    × (roundedOf (inf true) 1000 ≡ Unfit)
-    × (roundedOf nan 1000 ≡ Unfit)
+    (roundedOf (ofBits binary64 0xc028_b0f2_7bb2_fec5) 100 ≡ Fixed true 12 35)
+    × (roundedOf (ofBits binary64 0xbf70_624d_d2f1_a9fc) 100 ≡ Fixed false 0 0)
+    × (roundedOf (ofBits binary64 0x7e37_e43c_8800_759c) 100 ≡ Unfit)
+    × (roundedOf (inf true) 100 ≡ Unfit)
+    × (roundedOf nan 100 ≡ Unfit)

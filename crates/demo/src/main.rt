@@ -1,6 +1,5 @@
-// A demonstration: fits a bundled lot of twelve shots over the demonstration solver, shows the request and the answer as lines of the protocol, and says in
-// plain words
-// what they mean. It reads nothing.
+// A demonstration: fits a bundled lot of twelve shots over the demonstration solver, says in plain words what comes out, and shows the request and the
+// answer as lines of the protocol. It reads nothing.
 mod lot;
 mod meaning;
 mod protocol;
@@ -17,17 +16,16 @@ use numeric::DropUnit;
 
 fn say_heading() {
     say::text(
-        b"Launch speed and ballistic coefficient from the drops of twelve shots: a demonstration of the estimator.\n",
-    );
-    say::text(
-        b"The flight solver is a small point-mass one that serves demonstrations only; it is no part of the estimator.\n",
+        b"Launch speed and ballistic coefficient of a slug, fitted to the drops of twelve shots.\n",
     );
     say::tenths(
-        b"Nobody fired these shots: they are its drops at ",
+        b"Nobody fired them: they are the drops of a small flight solver at ",
         lot::TRUE_SPEED,
     );
     say::ten_thousandths(b" fps and ", lot::TRUE_COEFFICIENT);
-    say::text(b", each with a made-up deviation below its sigma.\n");
+    say::text(
+        b",\neach with a made-up deviation below its sigma. The solver is no part of the estimator.\n\n",
+    );
 }
 
 // So many questions are shown with their replies.
@@ -74,16 +72,21 @@ fn answered(
     }
 }
 
-// From the opening's answer to the last one.
-fn conversation(opened: Answer, ranges: [f64; 12], distances: [f64; 3]) -> Answer {
+// From the opening's answer on, at most so many questions, with their lines where they are to be shown.
+fn conversation(
+    opened: Answer,
+    ranges: [f64; 12],
+    distances: [f64; 3],
+    most: usize,
+    shown: bool,
+) -> Answer {
     let mut a = opened;
     let mut put = 0usize;
-    while put < editing::MAX_QUESTIONS {
+    while put < most {
         let step = a.step;
         let Step::Question(mv, bc, list) = step else {
             break;
         };
-        let shown = put < SHOWN;
         if shown {
             protocol::say_answer(a);
         }
@@ -93,25 +96,30 @@ fn conversation(opened: Answer, ranges: [f64; 12], distances: [f64; 3]) -> Answe
     a
 }
 
-fn say_start(lot: Lot) {
-    say_heading();
-    say::text(b"\nThe request:\n");
+// The request and the beginning of the conversation, which is held once more for it.
+fn say_beginning(lot: Lot, opened: Answer) {
+    let ranges = lot.ranges;
+    let distances = lot.distances;
+    say::text(b"\nThe lines behind it, as docs/PROTOCOL.md has them. The request:\n");
     protocol::say_request(lot);
     say::text(b"\nThe conversation begins:\n");
+    let begun = conversation(opened, ranges, distances, SHOWN, true);
 }
 
 fn say_end(last: Answer) {
     say::count(b"and goes on, ", editing::asked(last.session));
     say::text(b" questions in all. The answer:\n");
     protocol::say_answer(last);
-    say::text(b"\nWhat it says:\n");
-    meaning::say_answer(last);
 }
 
 fn main() {
     let sample = lot::sample();
     let ranges = sample.ranges;
     let distances = sample.distances;
-    say_start(sample);
-    say_end(conversation(lot::opened(sample), ranges, distances));
+    let opened = lot::opened(sample);
+    let last = conversation(opened, ranges, distances, editing::MAX_QUESTIONS, false);
+    say_heading();
+    meaning::say_answer(last);
+    say_beginning(sample, opened);
+    say_end(last);
 }

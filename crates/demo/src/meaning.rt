@@ -34,7 +34,7 @@ fn say_intervals(g: TruingGaussianApproximationV1) {
     let coefficient = g.ballistic_coefficient_interval_95;
     say::tenths(b"With 95 % probability the speed lies from ", speed.lower);
     say::tenths(b" to ", speed.upper);
-    say::ten_thousandths(b" fps, and the coefficient from ", coefficient.lower);
+    say::ten_thousandths(b" fps,\nand the coefficient from ", coefficient.lower);
     say::ten_thousandths(b" to ", coefficient.upper);
     say::text(b".\n");
 }
@@ -90,8 +90,8 @@ fn say_reduced(reduced: Number) {
     match reduced {
         Number::Absent => say::text(b" shots; too few to judge it by.\n"),
         Number::Given(x) => {
-            say::thousandths(b" shots, ", x);
-            say::text(b" for each degree of freedom; the sigmas lead one to expect about 1.\n");
+            say::hundredths(b" shots, ", x);
+            say::text(b" per degree of freedom; the sigmas lead one to expect about 1.\n");
         }
     }
 }
@@ -100,7 +100,7 @@ fn say_fit(d: TruingUncertaintyDiagnosticsV1, shots: usize) {
     let criterion = d.map_convergence_criterion;
     let reduced = d.reduced_chi_square;
     say_convergence(criterion);
-    say::thousandths(b"Chi-square ", d.chi_square);
+    say::hundredths(b"Chi-square ", d.chi_square);
     say::count(b" over ", shots as u64);
     say_reduced(reduced);
 }
@@ -109,7 +109,7 @@ fn say_fit(d: TruingUncertaintyDiagnosticsV1, shots: usize) {
 fn say_entered(b: TruingBaselineV1) {
     say::tenths(b"At the entered ", b.muzzle_velocity_fps);
     say::ten_thousandths(b" fps and ", b.ballistic_coefficient);
-    say::thousandths(b" chi-square is ", b.chi_square);
+    say::hundredths(b" chi-square is ", b.chi_square);
     say::text(b".\n");
 }
 
@@ -125,10 +125,12 @@ fn say_baseline(b: Baseline) {
 // ---- the shots
 
 fn say_result(o: WeightedTruingObservationResultV1) {
-    say::tenths(b"    ", o.range_yd);
-    say::thousandths(b" yd: measured ", o.observed_drop);
-    say::thousandths(b" in, by the fit ", o.predicted_drop);
-    say::text(b" in\n");
+    say::column_of_tenths(b"  ", o.range_yd);
+    say::column_of_hundredths(b"   ", o.observed_drop);
+    say::column_of_hundredths(b"", o.sigma);
+    say::column_of_hundredths(b"     ", o.predicted_drop);
+    say::column_of_hundredths(b"         ", o.standardized_residual);
+    say::text(b"\n");
 }
 
 fn say_results(s: Session, n: usize) {
@@ -145,35 +147,26 @@ fn say_results(s: Session, n: usize) {
 
 // ---- the requested distances
 
-fn say_range(before: &[u8], lower: f64, upper: f64) {
-    say::thousandths(before, lower);
-    say::thousandths(b" to ", upper);
+fn say_range(lower: f64, upper: f64) {
+    say::column_of_hundredths(b"   ", lower);
+    say::column_of_hundredths(b" to", upper);
 }
 
-fn say_latent(i: Interval) {
+fn say_interval(i: Interval) {
     match i {
-        Interval::Absent => say::text(b" in, no range for the true drop"),
-        Interval::Present(g) => say_range(b" in, true drop ", g.lower, g.upper),
-    }
-}
-
-fn say_future(i: Interval) {
-    match i {
-        Interval::Absent => say::text(b", no range for one more shot\n"),
-        Interval::Present(g) => {
-            say_range(b", one more shot ", g.lower, g.upper);
-            say::text(b"\n");
-        }
+        Interval::Absent => say::text(b"              no range"),
+        Interval::Present(g) => say_range(g.lower, g.upper),
     }
 }
 
 fn say_band(b: TruingPredictiveBandV1) {
     let latent = b.latent_interval_95;
     let future = b.future_observation_interval_95;
-    say::tenths(b"    ", b.range_yd);
-    say::thousandths(b" yd: ", b.predicted_drop);
-    say_latent(latent);
-    say_future(future);
+    say::column_of_tenths(b"  ", b.range_yd);
+    say::column_of_hundredths(b"     ", b.predicted_drop);
+    say_interval(latent);
+    say_interval(future);
+    say::text(b"\n");
 }
 
 fn say_bands(s: Session, n: usize) {
@@ -214,7 +207,7 @@ fn say_warnings_of_the_fit(w: Warnings) {
     );
     say_warning(
         w.ill_conditioned_data,
-        b"the shots alone hardly tell a faster bullet from one with less drag.",
+        b"the shots alone hardly tell a faster slug from one with less drag.",
     );
 }
 
@@ -261,12 +254,17 @@ fn say_report(s: Session, r: UncertaintyTruingReportV1) {
     say_approximation(approximation);
     say_fit(diagnostics, r.observations);
     say_baseline(baseline);
-    say::text(b"The shots:\n");
+    say::text(
+        b"\nThe shots, with drops in inches. The residual is the fit's drop less the measured one.\n",
+    );
+    say::text(b"    yards   measured   sigma   by the fit   residual/sigma\n");
     say_results(s, r.observations);
     say::text(
-        b"Drops at the requested distances, with the 95 % ranges of the true drop and of one more shot:\n",
+        b"\nThe requested distances, with the 95 % ranges of the true drop and of one more shot's, in inches.\n",
     );
+    say::text(b"    yards   by the fit             true drop         one more shot\n");
     say_bands(s, r.predictive_bands);
+    say::text(b"\n");
     say_warnings(found);
 }
 

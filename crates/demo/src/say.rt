@@ -20,7 +20,17 @@ fn fraction(fraction: u64, first: u64) {
     }
 }
 
-// The digits before the point, the point, and those behind it; a hyphen for a number that is too large or none at all.
+// The digits before the point, the point, and those behind it.
+fn signed(negative: bool, whole: u64, parts: u64, first: u64) {
+    if negative {
+        text(b"-");
+    }
+    digits(whole);
+    text(b".");
+    fraction(parts, first);
+}
+
+// A hyphen stands for a number that is too large or none at all.
 fn number(d: Decimal, first: u64) {
     match d {
         Decimal::Unfit => text(b"-"),
@@ -28,13 +38,34 @@ fn number(d: Decimal, first: u64) {
             negative,
             whole,
             parts,
+        } => signed(negative, whole, parts, first),
+    }
+}
+
+// Spaces in place of a sign and of the thousands, hundreds and tens that are not there.
+fn lead(negative: bool, whole: u64) {
+    if !negative {
+        text(b" ");
+    }
+    match whole {
+        0..=9 => text(b"   "),
+        10..=99 => text(b"  "),
+        100..=999 => text(b" "),
+        _ => text(b""),
+    }
+}
+
+// A number in a column of numbers below 10000, which end below each other; none is what stands there for no number.
+fn column(d: Decimal, first: u64, none: &[u8]) {
+    match d {
+        Decimal::Unfit => text(none),
+        Decimal::Fixed {
+            negative,
+            whole,
+            parts,
         } => {
-            if negative {
-                text(b"-");
-            }
-            digits(whole);
-            text(b".");
-            fraction(parts, first);
+            lead(negative, whole);
+            signed(negative, whole, parts, first);
         }
     }
 }
@@ -51,14 +82,26 @@ pub fn tenths(before: &[u8], x: f64) {
     number(rounding::rounded(x, 10), 1);
 }
 
-// Words and a number with three decimals.
-pub fn thousandths(before: &[u8], x: f64) {
+// Words and a number with two decimals.
+pub fn hundredths(before: &[u8], x: f64) {
     text(before);
-    number(rounding::rounded(x, 1000), 100);
+    number(rounding::rounded(x, 100), 10);
 }
 
 // Words and a number with four decimals.
 pub fn ten_thousandths(before: &[u8], x: f64) {
     text(before);
     number(rounding::rounded(x, 10000), 1000);
+}
+
+// Words and a number with one decimal, seven places wide.
+pub fn column_of_tenths(before: &[u8], x: f64) {
+    text(before);
+    column(rounding::rounded(x, 10), 1, b"      -");
+}
+
+// Words and a number with two decimals, eight places wide.
+pub fn column_of_hundredths(before: &[u8], x: f64) {
+    text(before);
+    column(rounding::rounded(x, 100), 10, b"       -");
 }

@@ -54,7 +54,7 @@ halfTime = ofBits binary64 0x3f50_0000_0000_0000
 abbrev pub gravity : Float
 gravity = ofBits binary64 0x4040_1645_a1ca_c083
 
--- the first-order flat-fire expansion of the length of the velocity, vx + vy² / 2 vx: good to a millionth at a bullet's flat angles, where vy is below a
+-- the first-order flat-fire expansion of the length of the velocity, vx + vy² / 2 vx: good to a millionth at a slug's flat angles, where vy is below a
 -- twentieth
 -- of vx
 abbrev pub speedOf : Float → Float → Float
@@ -75,7 +75,7 @@ stepOf k s =
 unfoldable pub onLine : Flight → Flight → Float → Float
 onLine s t x = s .y ⊕ (x ⊖ s .x) ⊘ (t .x ⊖ s .x) ⊗ (t .y ⊖ s .y)
 
--- how far down the bullet is when it has come x feet: missing where the steps are used up, or where it has become slower than 50 fps
+-- how far down the slug is when it has come x feet: missing where the steps are used up, or where it has become slower than 50 fps
 unfoldable pub flight : ℕ → Float → Float → Flight → run.Entry
 flight zero k x s = run.missing
 flight (suc n) k x s =

@@ -40,7 +40,7 @@ const METRES_PER_YARD: f64 = 0.9144;
 
 const METRES_PER_FOOT: f64 = 0.3048;
 
-// Where the bullet is, in feet forward and down, and its speeds that way, in feet per second.
+// Where the slug is, in feet forward and down, and its speeds that way, in feet per second.
 pub struct Flight {
     x: f64,
     y: f64,
@@ -48,7 +48,7 @@ pub struct Flight {
     vy: f64,
 }
 
-// What the solver says at one distance: that the bullet does not get there, or its drop.
+// What the solver says at one distance: that the slug does not get there, or its drop.
 pub enum Entry {
     Missing,
     Drop(f64),
@@ -67,7 +67,7 @@ pub fn is_sane(p: Point) -> bool
     is_within(LEAST_SPEED, MOST_SPEED, p.mv) & is_within(LEAST_COEFFICIENT, MOST_COEFFICIENT, p.bc)
 }
 
-// The drag coefficient at a speed, with no jumps, in the manner of the G1 projectile: it rises near the speed of sound and falls slowly beyond.
+// The drag coefficient at a speed, with no jumps, in the manner of the G1 slug: it rises near the speed of sound and falls slowly beyond.
 fn drag(speed: f64) -> f64
     ensures { λ r. ⌜ r ≡ dragOf speed ⌝ }
 {
@@ -105,7 +105,7 @@ fn on_line(s: Flight, t: Flight, x: f64) -> f64
     s.y + (x - s.x) / (t.x - s.x) * (t.y - s.y)
 }
 
-// How far down the bullet is when it has come so many feet, if it does.
+// How far down the slug is when it has come so many feet, if it does.
 fn fly(k: f64, x: f64, start: Flight) -> Entry
     ensures { λ r. ⌜ says r ≡ flight 4096 k x start ⌝ }
 {

@@ -5,10 +5,10 @@ use Rattle.demo.proofs.conversation.Statement.{statement}
 use Rattle.demo.proofs.conversation.Tie as tie
 
 abbrev Inv-loop : tie.InvT-loop
-Inv-loop ranges distances a₀ put₀ a put = Unit {0}
+Inv-loop ranges distances most shown a₀ put₀ a put = Unit {0}
 
 abbrev μ-loop : tie.MeasureT-loop
-μ-loop ranges distances a₀ put₀ a put = 4546 - put
+μ-loop ranges distances most shown a₀ put₀ a put = most - put
 
 loop-holds : tie.Need-loop-holds Inv-loop μ-loop
 loop-holds c = tt

@@ -1,4 +1,4 @@
--- `fly` meets its contract. The invariant: what is left of the steps, from where the bullet is, comes to what all of them come to from the start. Assumes
+-- `fly` meets its contract. The invariant: what is left of the steps, from where the slug is, comes to what all of them come to from the start. Assumes
 -- nothing.
 use Prim.Native.Nat.{ℕ, zero, suc, _<_, _-_}
 use mathlib.Core.Path.{_≡_, refl, sym, ap, _∙_}
