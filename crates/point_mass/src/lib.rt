@@ -67,7 +67,7 @@ pub fn is_sane(p: Point) -> bool
     is_within(LEAST_SPEED, MOST_SPEED, p.mv) & is_within(LEAST_COEFFICIENT, MOST_COEFFICIENT, p.bc)
 }
 
-// The drag coefficient at a speed, with no jumps, in the manner of the G1 slug: it rises near the speed of sound and falls slowly beyond.
+// The drag coefficient at a speed, with no jumps, in the manner of the G1 projectile: it rises near the speed of sound and falls slowly beyond.
 fn drag(speed: f64) -> f64
     ensures { λ r. ⌜ r ≡ dragOf speed ⌝ }
 {
