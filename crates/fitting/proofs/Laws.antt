@@ -17,7 +17,7 @@ use Rattle.definition.proofs.Polls.{evaluationsOf, turn-same}
 use Rattle.definition.specs.declared.Point.{Point}
 use Rattle.definition.specs.declared.Evaluation.{Evaluation}
 use Rattle.map_fit.specs.Trials.{nextTrialOf}
-use Rattle.map_fit.specs.Laws.{goesOn, trials-next}
+use Rattle.map_fit.proofs.Trials.{goesOn, trials-next}
 use Rattle.map_fit.specs.declared.NextTrial.the-variants.{Candidate, Exhausted}
 use Rattle.criteria.specs.Criteria.{materialOf}
 use Rattle.objective_mesh.specs.Meaning.{passOf, pollOf, seenWithin}

@@ -15,7 +15,7 @@ use Rattle.definition.specs.declared.Point.{Point}
 use Rattle.objective_mesh.specs.Meaning.{lastDirection, looksAs, seenWithin}
 use Rattle.objective_mesh.specs.declared.Looked.{Looked}
 use Rattle.objective_mesh.specs.declared.Looked.the-variants.{Moved, NoneMoved}
-use Rattle.objective_mesh.specs.Laws.{look-from}
+use Rattle.objective_mesh.proofs.Directions.{look-from}
 
 -- one number more is passed
 pub past : (k j : ℕ) → k ≤ j → (j ≡ k → ⊥) → suc k ≤ j

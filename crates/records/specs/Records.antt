@@ -1,6 +1,6 @@
 -- What lent records stand for in the definition.
-use mathlib.Core.Path.{_≡_, refl, ap}
-use mathlib.Core.List.{List, [], _∷_, map}
+use mathlib.Core.Path.{_≡_}
+use mathlib.Core.List.{List, map}
 use lib.Ieee.{Float}
 use Rattle.definition.specs.Request.{Observation}
 use Rattle.definition.specs.Meaning.{observationsOf}
@@ -19,7 +19,6 @@ dropsOf ws = map (λ (w : WeightedTruingObservationV1). w .drop) ws
 abbrev pub sigmasOf : List WeightedTruingObservationV1 → List Float
 sigmasOf ws = map (λ (w : WeightedTruingObservationV1). w .sigma) ws
 
--- the records hold what three lists hold together: so a sum over either is a sum over the same observations
-pub as-lists : (ws : List WeightedTruingObservationV1) → observationsOf (rangesOf ws) (dropsOf ws) (sigmasOf ws) ≡ map observationIn ws
-as-lists [] = refl
-as-lists (w ∷ ws) = ap (λ (xs : List Observation). observationIn w ∷ xs) (as-lists ws)
+-- the records hold what three lists hold together, so that a sum over either is a sum over the same observations. Theorem `as-lists`.
+abbrev pub AsLists : Type 0
+AsLists = (ws : List WeightedTruingObservationV1) → observationsOf (rangesOf ws) (dropsOf ws) (sigmasOf ws) ≡ map observationIn ws

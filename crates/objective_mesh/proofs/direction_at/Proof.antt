@@ -1,7 +1,7 @@
 -- `direction_at` meets its contract: each arm by its number, and the last by the law of the eighth direction. Assumes nothing.
 use mathlib.Core.Path.{sym}
 use native.Mathlib.Omega.{arith}
-use Rattle.objective_mesh.specs.Laws.{direction-last}
+use Rattle.objective_mesh.proofs.Directions.{direction-last}
 use Rattle.objective_mesh.proofs.Laws.{past}
 use Rattle.objective_mesh.proofs.direction_at.Statement.{statement}
 use Rattle.objective_mesh.proofs.direction_at.Tie as tie

@@ -6,7 +6,7 @@ use native.Mathlib.Omega.{arith}
 use borrow.Author.Needs.{needs}
 use lib.ListN.{drop}
 use Rattle.definition.specs.Mesh as mesh
-use Rattle.objective_mesh.specs.Laws.{look-past}
+use Rattle.objective_mesh.proofs.Directions.{look-past}
 use Rattle.objective_mesh.proofs.Laws.{look-moved, look-unmoved}
 use Rattle.objective_mesh.proofs.look.Statement.{statement}
 use Rattle.objective_mesh.proofs.look.Tie as tie
