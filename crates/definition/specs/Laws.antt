@@ -1,8 +1,7 @@
--- What holds of every run of the definition. The theorems stand in proofs/ under the names that stand here:
--- Questions.antt (the questions and their number), Polls.antt, Fits.antt, Warnings.antt, Ranges.antt, Presence.antt.
--- That the fit, the evaluation at the fit and the baseline do not see the requested distances needs no theorem: `fitMap`, `evaluate` and `baseline` take no
--- list
--- of them (Fit.antt, Likelihood.antt, Whole.antt), and `run` hands `fitMap` the `Measured` alone.
+-- What holds of every run of the definition. The theorems stand in proofs/ under the names that stand here: Questions.antt (the questions and their number),
+-- Polls.antt, Fits.antt, Warnings.antt, Ranges.antt, Presence.antt. That the fit, the evaluation at the fit and the baseline do not see the requested distances
+-- needs no theorem: `fitMap`, `evaluate` and `baseline` take no list of them (Fit.antt, Likelihood.antt, Whole.antt), and `run` hands `fitMap` the `Measured`
+-- alone.
 use Prim.Native.Nat.{ℕ, zero, suc, _+_, _≤_}
 use mathlib.Core.Path.{_≡_}
 use mathlib.Core.Bool.{Bool, true, false}
@@ -96,8 +95,7 @@ pub record Level (radius : Float) (smaller : ℕ) : Type 0 where
   pub is : radius ≡ radiusAfter before
 
 -- Theorem `radius-tested`: every pass of a poll has such a radius, from the first pass on, and so has what a pass without a gain goes on with. There the
--- source's test
--- for the last radius, `radius <= 1e-7`, holds exactly where the countdown says that no smaller one is to come.
+-- source's test for the last radius, `radius <= 1e-7`, holds exactly where the countdown says that no smaller one is to come.
 pub record RadiusTested : Type 0 where
   pub first : (information : Symmetric2) (centre : Point) (current : Float) → let s = firstPass information centre current in Level (s .radius) (s .smaller)
   pub next : (s t : Pass) (c : Point) → Level (s .radius) (s .smaller) → pollStep s ≡ evaluates c t → Level (t .radius) (t .smaller)
@@ -113,8 +111,7 @@ module _ {A : Type 0} where
   Every P (ask p w k) = (r : Reply) → Every P (k r)
 
 -- how a fit is verified, and after how many poll evaluations: not at all, only where the poll used up its 1,024; by the gradient, without a poll; by the mesh,
--- at
--- the radius 1e-7
+-- at the radius 1e-7
 abbrev pub Shown : Convergence → ℕ → Type 0
 Shown notConverged n = n ≡ 1024
 Shown scaledGradient n = n ≡ 0

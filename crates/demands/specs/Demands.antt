@@ -1,6 +1,5 @@
 -- The three demands over any list of calls on a session just opened, declined ones included. Stated over what a host sees: the answers, and what the calls that
--- read
--- a session give. Theorems `demand-1`, `demand-2` and `demand-3` stand in proofs/Demands.antt.
+-- read a session give. Theorems `demand-1`, `demand-2` and `demand-3` stand in proofs/Demands.antt.
 use Prim.Native.Nat.{ℕ, suc, _≤_, _<_}
 use mathlib.Core.Path.{_≡_}
 use mathlib.Core.List.{List, [], _∷_}

@@ -91,8 +91,7 @@ abbrev pub gap : Call
 gap = reply (zero64 ∷ []) (true ∷ [])
 
 -- The run: one objective, five questions of the fit, five at the fit, five about the requested distances, and the baseline. In it an edit and a reply of one
--- entry are
--- declined, and after it two replies and an edit beyond the list.
+-- entry are declined, and after it two replies and an edit beyond the list.
 abbrev pub run : List Line
 run =
     three 10 20 32 gets asks Distances.Shots

@@ -1,6 +1,5 @@
 // The bundled lot: twelve shots, the entered point, a prior of the speed and three requested distances. Nobody fired the shots: each is the solver's drop with
-// a
-// made-up deviation added.
+// a made-up deviation added.
 use definition::NormalPriorV1;
 use definition::Point;
 use definition::Prior;

@@ -14,8 +14,7 @@ pub enum Decimal {
 }
 
 // x in parts of 1 / unit, rounded: a half is added and the rest cut off. A number whose parts a u64 does not hold is unfit, and so is a not-a-number. What
-// rounds
-// to 0 has no sign.
+// rounds to 0 has no sign.
 pub fn rounded(x: f64, unit: u64) -> Decimal
     requires { ⌜ 0 < unit ⌝ }
     ensures { λ r. ⌜ r ≡ roundedOf x unit ⌝ }

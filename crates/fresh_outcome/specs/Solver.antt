@@ -48,10 +48,8 @@ fresh σ o l = play (hostOf σ (withList o l)) (whole (withList o l))
 -- ---- an edit
 
 -- Theorem `edit-fresh`: an edit of a finished run, at a place of its list, ends as a fresh whole run with the edited list does: with the same finished run, or
--- with
--- a refusal of the same number and position: 6, or 7 or 13 at the place, which is the first position at fault since the other entries passed. 10 cannot come:
--- the five
--- points of the new distance are those of the evaluation at the fit, and the solver did not refuse them there.
+-- with a refusal of the same number and position: 6, or 7 or 13 at the place, which is the first position at fault since the other entries passed. 10 cannot
+-- come: the five points of the new distance are those of the evaluation at the fit, and the solver did not refuse them there.
 abbrev pub EditFresh : Type 0
 EditFresh =
     (σ : Solver) (o : Opening) (l : List Requested) (c : Finished) (e : Edit) → fresh σ o l ≡ ends c → placed e (length l) ≡ true

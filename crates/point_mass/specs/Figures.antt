@@ -19,10 +19,8 @@ abbrev pub slow : Point
 slow = point (ofBits binary64 0x4059_0000_0000_0000) (ofBits binary64 0x3f84_7ae1_47ae_147b)
 
 -- 100 fps and 0.01, 6000 fps and 3 are sane; the next speed above 6000 and a coefficient that is no number are not. At 2000 fps forward and 100 down the speed
--- is
--- 2002.5. At 3 yards, in the second step, the example's drop is 0.0022 inches or 0.0207 mil; at a distance of 0 it is missing. At a quarter yard, in the fourth
--- step,
--- the slow one's drop is 0.011 inches, one unit in the last place less than with a rounded root for the speed.
+-- is 2002.5. At 3 yards, in the second step, the example's drop is 0.0022 inches or 0.0207 mil; at a distance of 0 it is missing. At a quarter yard, in the
+-- fourth step, the slow one's drop is 0.011 inches, one unit in the last place less than with a rounded root for the speed.
 abbrev pub Figures : Type 0
 Figures =
     (isSane slow ≡ true)

@@ -55,8 +55,7 @@ abbrev pub gravity : Float
 gravity = ofBits binary64 0x4040_1645_a1ca_c083
 
 -- the first-order flat-fire expansion of the length of the velocity, vx + vy² / 2 vx: good to a millionth at a slug's flat angles, where vy is below a
--- twentieth
--- of vx
+-- twentieth of vx
 abbrev pub speedOf : Float → Float → Float
 speedOf vx vy = vx ⊕ vy ⊗ vy ⊘ (vx ⊕ vx)
 

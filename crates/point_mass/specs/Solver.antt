@@ -1,6 +1,5 @@
 -- The demonstration solver as a solver of the third demand: its refusal depends on the point alone, its entry at a distance on the point and that distance
--- alone. The
--- theorem stands in proofs/Solver.antt.
+-- alone. The theorem stands in proofs/Solver.antt.
 use Prim.Native.Nat.{_≤_}
 use mathlib.Core.Path.{_≡_}
 use mathlib.Core.Bool.{Bool, true, not}

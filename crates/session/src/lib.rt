@@ -296,8 +296,7 @@ fn baseline_if<'a>(
 }
 
 // A reply with an entry for each distance of the open question: a drop, or its flag for one that is missing. The session is copied once: its arrays are lent
-// from
-// locals, no part of it goes by value into a function that is called twice, and one expression makes the answer.
+// from locals, no part of it goes by value into a function that is called twice, and one expression makes the answer.
 pub fn reply<'a>(s: Session, reply: &'a [f64], missing: &'a [bool]) -> Answer
     ensures { λ r. ⌜ Replied seen s (now (reply .entry)) (now (missing .entry)) (r .step) (r .session) ⌝ }
 {

@@ -1,7 +1,7 @@
 // Runs fits over a solver, each report written into memory, and writes how many questions they put in all and how many bytes their reports have: what a reply
 // costs. Its input is a line of counts: runs, observations (at most 64), requested distances (at most 64) and, where they are wanted, the solver (0 for a
-// formula of
-// a few operations, 1 for `point_mass`) and what becomes of the reports: 0 as said, 1 for the last one's line below the counts too, 2 for none being written.
+// formula of a few operations, 1 for `point_mass`) and what becomes of the reports: 0 as said, 1 for the last one's line below the counts too, 2 for none being
+// written.
 use definition::Distances;
 use definition::NormalPriorV1;
 use definition::Point;

@@ -94,8 +94,7 @@ pub record Goes (bytes : List ℕ) (at : ℕ) (out after : Text) (r : Fed) (t : 
   pub same : (more : List ℕ) → outputFrom t s (drop at bytes ++ more) ≡ text ++ outputFrom conversation line (drop (r .at) bytes ++ more)
 
 -- The contract of `feed`. A state that `begin` and `feed` did not give, whose fields no host can set, holds no conversation: of it only that the buffer keeps
--- its room, and
--- that the bytes are gone on with, is promised.
+-- its room, and that the bytes are gone on with, is promised.
 pub record Feeds (h : State) (bytes : List ℕ) (at : ℕ) (out after : Text) (r : Fed) : Type 0 where
   pub room : length after ≡ length out
   pub goes : (t : Conversation) (s : List ℕ) → Holds h t s → Goes bytes at out after r t s

@@ -1,6 +1,5 @@
 -- The line protocol from the bytes of standard input to those of standard output: `outputOf`. It reads beside docs/PROTOCOL.md. What a line is, is `formOf`
--- (forms), and
--- what is answered to it `answerTo` (conversation).
+-- (forms), and what is answered to it `answerTo` (conversation).
 use Prim.Native.Nat.{ℕ}
 use mathlib.Core.Bool.{cond}
 use mathlib.Core.List.{List, [], _∷_, _++_}

@@ -11,8 +11,7 @@ ghost use Rattle.conversation.specs.Conversation.{initial};
 ghost use Rattle.stream.specs.Bytes.{Reads, Scans, Holds, Feeds, Finishes};
 
 // The line that is being read: its words so far and the one that is being read, whether that is the first, and whether the line has a byte. A word of a form
-// has at
-// most 20 bytes, or 22 with both parentheses: of a longer one 32 are kept, so that it stays too long.
+// has at most 20 bytes, or 22 with both parentheses: of a longer one 32 are kept, so that it stays too long.
 pub struct Reader {
     word: [u8; 32],
     len: usize,

@@ -1,7 +1,6 @@
 // The line protocol over standard input and output: a host's lines are answered one by one, and each answer is written out before the next line is read.
 // `begin`, `feed` and `finish` are the library's, with what theorem `output` of `stream` assumes of them: however the input is cut into pieces, the bytes that
-// they
-// leave in the buffer are those of the protocol's definition. What follows them is the loop that reads, calls and writes.
+// they leave in the buffer are those of the protocol's definition. What follows them is the loop that reads, calls and writes.
 use libc::STDIN_FILENO;
 use libc::STDOUT_FILENO;
 use stream::Fed;
