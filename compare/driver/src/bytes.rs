@@ -128,6 +128,10 @@ struct Counts {
     malformed: u64,
     most: u64,
     asked: u64,
+    pages: u64,
+    empty_pages: u64,
+    page_lines: u64,
+    longest_page: usize,
     unended: u64,
     empty: u64,
 }
@@ -143,7 +147,8 @@ impl Counts {
         self.lines[kind] += feeds + unended as u64;
         self.unended += unended as u64;
         self.empty += due.is_empty() as u64;
-        for line in due.split(|b| *b == b'\n').filter(|line| !line.is_empty()) {
+        let mut lines = due.split(|b| *b == b'\n').filter(|line| !line.is_empty());
+        while let Some(line) = lines.next() {
             self.longest = self.longest.max(line.len());
             let mut words = line.split(|b| *b == b' ').map(|w| w.strip_suffix(b")").unwrap_or(w));
             let first = words.next().unwrap_or_default();
@@ -160,6 +165,13 @@ impl Counts {
                     self.most = self.most.max(second.parse().expect("a number"));
                 }
                 b"(asked" => self.asked += 1,
+                b"(page" => {
+                    let count = second.parse::<usize>().expect("a number");
+                    self.pages += 1;
+                    self.empty_pages += (count == 0) as u64;
+                    self.page_lines += lines.by_ref().take(count).count() as u64;
+                    self.longest_page = self.longest_page.max(count);
+                }
                 _ => panic!("no answer: {}", String::from_utf8_lossy(line)),
             }
         }
@@ -188,11 +200,15 @@ impl Counts {
         }
         row("malformed".to_string(), self.malformed);
         row("asked".to_string(), self.asked);
+        row("page".to_string(), self.pages);
+        row("page where no report stands".to_string(), self.empty_pages);
+        row("page's lines".to_string(), self.page_lines);
         row("inputs with an unended last line".to_string(), self.unended);
         row("inputs without an answer".to_string(), self.empty);
         println!(
-            "the longest answer has {} bytes, the highest number of a malformed line is {}",
-            self.longest, self.most
+            "the longest line has {} bytes, the longest page {} lines, \
+             the highest number of a malformed line is {}",
+            self.longest, self.longest_page, self.most
         );
         all
     }

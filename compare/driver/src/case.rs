@@ -1,7 +1,8 @@
 //! Random requests, sound and faulty, with a solver each.
 
+use crate::numbers;
 use crate::rng::Rng;
-use crate::solver::{self, Base, Slip, Solver};
+use crate::solver::{self, Base, Gap, Slip, Solver};
 use estimator::{Opening, Place, Requested, Variant};
 use oracle::form::Edit;
 
@@ -16,12 +17,25 @@ pub struct Case {
     pub edits: usize,
     /// Edits that are laid down beforehand; they come before those.
     pub plan: Vec<Edit>,
+    /// How often `(page)` follows an end; unless it is 0, one comes elsewhere too.
+    pub pages: f64,
 }
 
 const BAD: [f64; 6] = [f64::NAN, f64::INFINITY, f64::NEG_INFINITY, 0.0, -0.0, -3.0];
 
 impl Case {
+    /// A case with pages; one in sixteen is made for what they show.
     pub fn random(seed: u64) -> Case {
+        let rng = &mut Rng::new(seed ^ 0x0dd);
+        if rng.chance(0.0625) {
+            odd(seed, rng)
+        } else {
+            Case { pages: 0.7, ..Case::plain(seed) }
+        }
+    }
+
+    /// A case without pages.
+    pub fn plain(seed: u64) -> Case {
         let rng = &mut Rng::new(seed);
         // Two in five are fits as a range would make them.
         let tame = rng.chance(0.4);
@@ -77,8 +91,58 @@ impl Case {
             noise: rng.pick(&[0.0, 0.0, 0.0, 0.0, 0.01, 0.1]),
             edits: if rng.chance(0.3) { rng.between(1, 5) } else { 0 },
             plan: Vec::new(),
+            pages: 0.0,
         }
     }
+}
+
+/// A fit whose report has numbers of every kind.  Each drop goes by its distance alone,
+/// so that no slope moves the fit; with priors the latent interval is the drop itself.
+pub fn odd(seed: u64, rng: &mut Rng) -> Case {
+    // Most of these are ties.
+    let entered = [
+        1000.0 + rng.below(64_000) as f64 / rng.pick(&[16.0, 16.0, 20.0]),
+        rng.between(1, 32) as f64 / rng.pick(&[16.0, 16.0, 17.0]),
+    ];
+    let solver = Solver {
+        seed: rng.bits(),
+        base: Base::Shelf,
+        noise: 0.0,
+        gap: if rng.chance(0.1) { Gap::MissingBeyond(rng.scale(3.0, 12.0)) } else { Gap::Nothing },
+        slip: None,
+    };
+    let mut opening = Opening { entered, ..Opening::default() };
+    let sigma = rng.pick(&[1.0, 1.0, 1.0, 4.0, 1e6]);
+    let count = rng.between(2, 9);
+    let exact = rng.chance(0.5);
+    while opening.shots.len() < count {
+        let at = numbers::edge(rng).abs();
+        let drop = solver.drop(1, entered[0], entered[1], at);
+        // A residual of an odd number of quarters has a tie for its square.
+        let measured = match rng.below(3) {
+            _ if !exact => numbers::edge(rng),
+            0 => drop + 0.25 * rng.between(1, 20) as f64,
+            _ => drop,
+        };
+        if at > 0.0 && drop.abs() < 1e100 {
+            opening.shots.push([at, measured, sigma]);
+        }
+    }
+    if rng.chance(0.6) {
+        // Not so far apart that the rank is lost; the widest ends have too many digits.
+        let width = rng.scale(-5.0, 9.0);
+        opening.speed_prior = Some([entered[0], 100.0 * width * rng.scale(-1.0, 1.0)]);
+        opening.coefficient_prior = Some([entered[1], 0.1 * width * rng.scale(-1.0, 1.0)]);
+    }
+    for _ in 0..rng.below(10) {
+        let distance = numbers::edge(rng).abs();
+        if distance > 0.0 {
+            opening.distances.push(Requested { distance, sigma: None });
+        }
+    }
+    let noise = rng.pick(&[0.0, 0.0, 0.1]);
+    let edits = rng.below(4);
+    Case { seed, opening, solver, noise, edits, plan: Vec::new(), pages: 1.0 }
 }
 
 fn rng_speed(rng: &mut Rng) -> f64 {

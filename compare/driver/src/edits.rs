@@ -9,18 +9,19 @@ use crate::rng::Rng;
 use crate::write;
 use estimator::{Opening, Requested, Variant, LIMIT};
 use oracle::form::Edit;
-use oracle::Host;
+use oracle::{page, Host};
 
-/// What a session opened with this list ends in, as its line.
-pub fn fresh(case: &Case, list: &[Requested]) -> String {
+/// What a session opened with this list ends in: its line and its page.
+pub fn fresh(case: &Case, list: &[Requested]) -> (String, String) {
     let opening = Opening { distances: list.to_vec(), ..case.opening.clone() };
-    let declined = |(number, position)| format!("(declined {number} {position})");
+    let declined =
+        |(number, position)| (format!("(declined {number} {position})"), page::answer(None));
     if let Some(refusal) = estimator::opening_refusal(&opening) {
         return declined(refusal);
     }
     let mut answer = answering(&opening, &case.solver);
     match estimator::run(Variant::Recipes, &opening, &mut answer) {
-        Ok(report) => report.line,
+        Ok(report) => (report.line, page::answer(Some(&report.sheet))),
         Err(refusal) => declined(refusal),
     }
 }
@@ -41,6 +42,9 @@ struct Bookkeeper<'a> {
     phase: Phase,
     book: Vec<Requested>,
     standing: bool,
+    /// The page of the report that the book's list gives.
+    page: String,
+    pages: Rng,
     /// The open question's list and point.
     open: Option<(String, f64, f64)>,
     /// The last call, judged when its answer comes.
@@ -59,6 +63,7 @@ enum Call {
     /// A call that must get this answer and change nothing.
     Declined(u32),
     Edit(Edit, Vec<Requested>),
+    Page,
 }
 
 /// Plays one case; gives the conversation, what was wrong, and how many edits ended.
@@ -71,6 +76,8 @@ pub fn play(case: &Case, line: &mut u64) -> (Script, Vec<String>, u64) {
         phase: Phase::Idle,
         book: case.opening.distances.clone(),
         standing: false,
+        page: page::answer(None),
+        pages: Rng::new(case.seed ^ 0x9a6e),
         open: None,
         call: Call::Other,
         script: Script::default(),
@@ -108,14 +115,20 @@ impl Host for Bookkeeper<'_> {
         }
         match (std::mem::replace(&mut self.call, Call::Other), self.phase.clone(), question) {
             (Call::Declined(number), ..) => self.check(&format!("(declined {number} 0)"), text),
+            (Call::Page, phase, _) => {
+                let stands = self.standing && matches!(phase, Phase::Idle);
+                let due = if stands { self.page.clone() } else { page::answer(None) };
+                self.check(&due, text);
+            }
             // The opening or a taken reply of the run.
             (Call::Other | Call::Reply, Phase::Idle | Phase::Run(_), Some(wanted)) => {
                 self.phase = Phase::Run(wanted)
             }
             (Call::Other | Call::Reply, Phase::Idle | Phase::Run(_), None) => {
-                let due = fresh(self.case, &self.book);
+                let (due, page) = fresh(self.case, &self.book);
                 self.check(&due, text);
                 self.standing = due.starts_with("(report");
+                self.page = page;
                 self.phase = Phase::Idle;
             }
             (Call::Edit(edit, list), _, Some(wanted)) => {
@@ -125,10 +138,11 @@ impl Host for Bookkeeper<'_> {
                 self.phase = Phase::Edit(wanted, edit, list)
             }
             (Call::Edit(_, list), _, None) | (Call::Reply, Phase::Edit(_, _, list), None) => {
-                let due = fresh(self.case, &list);
+                let (due, page) = fresh(self.case, &list);
                 self.check(&due, text);
                 if due.starts_with("(report") {
                     self.book = list;
+                    self.page = page;
                 }
                 self.phase = Phase::Idle;
                 self.ended += 1;
@@ -149,6 +163,17 @@ impl Bookkeeper<'_> {
     }
 
     fn next_line(&mut self) -> Option<Vec<u8>> {
+        let often = match self.phase {
+            _ if self.closed => 0.0,
+            Phase::Run(_) => 0.003,
+            Phase::Edit(..) => 0.1,
+            Phase::Idle if self.queue.is_empty() => 0.5,
+            Phase::Idle => 0.02,
+        };
+        if self.pages.chance(often) {
+            self.call = Call::Page;
+            return Some(b"(page)".to_vec());
+        }
         if let Some(line) = self.queue.pop_front() {
             return Some(line);
         }
@@ -201,8 +226,9 @@ impl Bookkeeper<'_> {
         }
         self.closed = true;
         self.queue.push_back(write::entered([0.0, 0.0]).into_bytes());
+        self.queue.push_back(b"(page)".to_vec());
         self.queue.push_back(b"(open plain)".to_vec());
-        self.script.closing = 2;
+        self.script.closing = 3;
         self.next_line()
     }
 

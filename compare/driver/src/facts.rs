@@ -2,6 +2,7 @@
 //! rarer ways through the text were taken.
 
 use crate::tally::WARNINGS;
+use estimator::Sheet;
 
 enum Tree {
     Word(String),
@@ -47,6 +48,29 @@ impl Tree {
 
     fn double(&self) -> f64 {
         f64::from_bits(u64::from_str_radix(self.word(), 16).expect("a double"))
+    }
+
+    /// A value, and the ends of its interval if there is one.
+    fn with_ends(&self, interval: &Tree) -> [Option<f64>; 3] {
+        let end = |i: usize| interval.parts().get(i).map(Tree::double);
+        [Some(self.double()), end(2), end(3)]
+    }
+
+    /// What the page of this report shows.
+    fn sheet(&self) -> Sheet {
+        let approximation = self.at(10);
+        let none = Tree::Word("none".to_string());
+        let available = approximation.at(0).word() == "Available";
+        let interval = |i: usize| if available { approximation.at(i) } else { &none };
+        let each = |i: usize| self.at(i).parts().iter();
+        Sheet {
+            speed: self.at(2).with_ends(interval(2)),
+            coefficient: self.at(3).with_ends(interval(3)),
+            chi_square: self.at(9).at(0).double(),
+            shots: each(7).map(|o| [0, 1, 3].map(|i| o.at(i).double())).collect(),
+            distances: each(11).map(|b| b.at(1).with_ends(b.at(2))).collect(),
+            warnings: each(12).map(|w| w.at(0).word().to_string()).collect(),
+        }
     }
 }
 
@@ -132,6 +156,14 @@ impl Facts {
         }
     }
 
+    /// Holds an answer to `(page)` to the line of the report that it follows.
+    pub fn page(&mut self, line: &str, answer: &str) {
+        let due = oracle::page::answer(Some(&Tree::read(line).sheet()));
+        if due != answer && self.broken.len() < 20 {
+            self.broken.push(format!("a page is its report's: {line}\n{answer}"));
+        }
+    }
+
     /// Prints the rarer ways and the claims that failed; says whether none did.
     pub fn print(&self) -> bool {
         for (name, count) in WAYS.iter().zip(self.ways) {
@@ -141,5 +173,104 @@ impl Facts {
             println!("not so: {broken}");
         }
         self.broken.is_empty()
+    }
+}
+
+#[cfg(test)]
+mod tests {
+    use super::*;
+
+    /// The vectors' pages are those of their reports.
+    #[test]
+    fn pages_of_the_vectors() {
+        for (report, page) in [
+            (
+                include_str!("../../vectors/l1-page-1.report"),
+                include_str!("../../vectors/l1-page-1.page"),
+            ),
+            (
+                include_str!("../../vectors/l1-page-3.report"),
+                include_str!("../../vectors/l1-page-3.page"),
+            ),
+        ] {
+            let found = oracle::page::answer(Some(&Tree::read(report).sheet())) + "\n";
+            let count = page.lines().count();
+            assert_eq!(found, format!("(page {count})\n{page}"));
+            assert!(page.lines().all(|line| line.len() == 64));
+        }
+    }
+
+    type Wrong = (&'static str, fn(&Tree, &mut Sheet));
+
+    /// Pages that show something else of a report, each in one place.
+    const WRONG: [Wrong; 11] = [
+        ("penalized chi-square", |report, sheet| sheet.chi_square = report.at(9).at(2).double()),
+        ("reduced chi-square", |report, sheet| {
+            let reduced = report.at(9).at(5);
+            sheet.chi_square = if reduced.word() == "none" { f64::NAN } else { reduced.double() };
+        }),
+        ("baseline's chi-square", |report, sheet| {
+            sheet.chi_square = report.at(8).parts().get(2).map_or(f64::NAN, Tree::double);
+        }),
+        ("baseline's shots", |report, sheet| {
+            for (shot, o) in sheet.shots.iter_mut().zip(report.at(8).at(3).parts()) {
+                shot[2] = o.at(3).double();
+            }
+        }),
+        ("residuals", |report, sheet| {
+            for (shot, o) in sheet.shots.iter_mut().zip(report.at(7).parts()) {
+                shot[2] = o.at(4).double();
+            }
+        }),
+        ("sigmas", |report, sheet| {
+            for (shot, o) in sheet.shots.iter_mut().zip(report.at(7).parts()) {
+                shot[1] = o.at(2).double();
+            }
+        }),
+        ("entered point", |report, sheet| {
+            sheet.speed[0] = Some(report.at(8).at(0).double());
+            sheet.coefficient[0] = Some(report.at(8).at(1).double());
+        }),
+        ("future intervals", |report, sheet| {
+            for (numbers, band) in sheet.distances.iter_mut().zip(report.at(11).parts()) {
+                *numbers = band.at(1).with_ends(band.at(3));
+            }
+        }),
+        ("distances of the bands", |report, sheet| {
+            for (numbers, band) in sheet.distances.iter_mut().zip(report.at(11).parts()) {
+                numbers[0] = Some(band.at(0).double());
+            }
+        }),
+        ("ends exchanged", |_, sheet| {
+            sheet.speed.swap(1, 2);
+            sheet.coefficient.swap(1, 2);
+        }),
+        ("warnings turned round", |_, sheet| sheet.warnings.reverse()),
+    ];
+
+    /// Each of them differs on reports of the fixed list that have a page there.
+    #[test]
+    fn wrong_pages() {
+        use crate::{player, sample};
+        let cases = [sample::named(), sample::long(), sample::pages()].concat();
+        let mut differ = [0; WRONG.len()];
+        for (_, case) in cases {
+            let script = player::play(&case, &mut 0);
+            let report = script.answers.iter().flatten().find(|a| a.starts_with("(report "));
+            let Some(report) = report.map(|line| Tree::read(line)) else { continue };
+            // Without a baseline there is none to be taken for the fit.
+            if report.at(8).word() == "none" {
+                continue;
+            }
+            let right = oracle::page::answer(Some(&report.sheet()));
+            for (count, (_, spoil)) in differ.iter_mut().zip(WRONG) {
+                let mut sheet = report.sheet();
+                spoil(&report, &mut sheet);
+                *count += (oracle::page::answer(Some(&sheet)) != right) as u64;
+            }
+        }
+        for (count, (name, _)) in differ.iter().zip(WRONG) {
+            assert!(*count > 0, "{name}");
+        }
     }
 }

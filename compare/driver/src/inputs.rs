@@ -91,7 +91,7 @@ fn letters(rng: &mut Rng) -> Vec<u8> {
     (0..count).map(|_| rng.pick(from)).collect()
 }
 
-const WORDS: [&str; 24] = [
+const WORDS: [&str; 25] = [
     "entered",
     "shot",
     "prior",
@@ -108,6 +108,7 @@ const WORDS: [&str; 24] = [
     "take-out",
     "exchange",
     "asked",
+    "page",
     "question",
     "report",
     "declined",
@@ -232,7 +233,7 @@ fn entries(rng: &mut Rng, count: usize) -> String {
 
 /// A line of one of the table's forms.
 fn form(rng: &mut Rng) -> String {
-    match rng.below(20) {
+    match rng.below(21) {
         0 => format!("(entered {} {})", double(rng), double(rng)),
         1 => write::entered([2000.0, 0.3]),
         2 => format!("(shot {} {} {})", double(rng), double(rng), double(rng)),
@@ -251,6 +252,7 @@ fn form(rng: &mut Rng) -> String {
         16 => format!("(put-in {} {} {})", place(rng), double(rng), sigma(rng)),
         17 => format!("(take-out {})", place(rng)),
         18 => format!("(exchange {} {} {})", place(rng), double(rng), sigma(rng)),
+        19 => "(page)".to_string(),
         _ => "(asked)".to_string(),
     }
 }
@@ -278,6 +280,9 @@ fn any_order(rng: &mut Rng) -> Vec<u8> {
             // As many replies as may bring a report.
             for _ in 0..rng.below(25) {
                 lines.push(write::reply(&Some(vec![Some(10.0); shots])).into_bytes());
+            }
+            if rng.chance(0.5) {
+                lines.push(b"(page)".to_vec());
             }
         } else {
             lines.push(form(rng).into_bytes());
@@ -316,6 +321,12 @@ fn conversation(rng: &mut Rng) -> Vec<Vec<u8>> {
             lines.append(&mut script.lines);
             break;
         }
+    }
+    if rng.chance(0.05) {
+        // A page again and again.
+        let at = rng.between(lines.len() / 2, lines.len());
+        let again = vec![b"(page)".to_vec(); rng.between(2, 300)];
+        lines.splice(at..at, again);
     }
     lines
 }
@@ -518,7 +529,7 @@ fn damage(rng: &mut Rng, bytes: &mut Vec<u8>) {
 
 fn odd_line(rng: &mut Rng) -> Vec<u8> {
     let h = double(rng);
-    let text = match rng.below(64) {
+    let text = match rng.below(68) {
         0..=1 => String::new(),
         2 => "()".to_string(),
         3 => rng.pick(&["(", ")", " ", "( )", "(())", ")(", "\r", "\0"]).to_string(),
@@ -587,6 +598,8 @@ fn odd_line(rng: &mut Rng) -> Vec<u8> {
         54 => format!("(drops{})", " ".repeat(rng.between(1, 5000))),
         55 => "x".repeat(rng.between(1, 9000)),
         56..=59 => form(rng),
+        60..=61 => "(page)".to_string(),
+        62..=63 => return player::spoilt_page(rng),
         _ => {
             let count = rng.between(1, 60);
             return (0..count).map(|_| rng.bits() as u8).collect();
@@ -754,8 +767,8 @@ fn long_lines(rng: &mut Rng) -> Vec<u8> {
 /// So many short lines, then a conversation with odd lines.
 fn many_lines(rng: &mut Rng, count: usize) -> Vec<u8> {
     let mut bytes = Vec::new();
-    let mode = rng.below(6);
-    if mode == 5 {
+    let mode = rng.below(7);
+    if mode == 6 {
         // Shots without end, which have no answer.
         bytes.extend(joined(&[write::entered([2500.0, 0.4]).into_bytes()]));
     }
@@ -764,9 +777,10 @@ fn many_lines(rng: &mut Rng, count: usize) -> Vec<u8> {
         let line: &[u8] = match mode {
             0 => b"",
             1 => b"(asked)",
-            2 => rng.pick(&[b"".as_slice(), b"x", b"(asked)", b"()", b"(drops)", b"(take-out 1)"]),
+            2 => rng.pick(&[b"".as_slice(), b"x", b"(page)", b"()", b"(drops)", b"(take-out 1)"]),
             3 => rng.pick(&[b"".as_slice(), b" ", b"\r", b"\0"]),
             4 => b"(refused)",
+            5 => b"(page)",
             _ => &shot,
         };
         bytes.extend_from_slice(line);
@@ -799,6 +813,7 @@ mod tests {
             Form::Refused => write::reply(&None),
             Form::Edit(edit) => write::edit(*edit),
             Form::Asked => "(asked)".to_string(),
+            Form::Page => "(page)".to_string(),
         }
     }
 

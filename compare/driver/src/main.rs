@@ -6,6 +6,7 @@ mod case;
 mod edits;
 mod facts;
 mod inputs;
+mod numbers;
 mod player;
 mod program;
 mod rng;
@@ -16,7 +17,7 @@ mod untouched;
 mod write;
 
 use std::path::{Path, PathBuf};
-use std::process::ExitCode;
+use std::process::{Command, ExitCode};
 
 use case::Case;
 use program::{Difference, Program};
@@ -83,6 +84,18 @@ fn main() -> ExitCode {
                 Ok(bytes::compare(&path(&arguments), count()?, seed()?, first))
             }
             Some("edits") => Ok(edited(&arguments, count()?, seed()?)),
+            Some("numbers") if words.get(1).is_some_and(|w| w == "list") => {
+                let directory = words.get(2).ok_or("numbers list wants a directory")?;
+                let written = numbers::write(Path::new(directory));
+                written.map(|()| true).map_err(|e| format!("{directory}: {e}"))
+            }
+            Some("numbers") => {
+                let mut command = Command::new(path(&arguments));
+                if arguments.program.is_none() {
+                    command.arg("--numbers");
+                }
+                Ok(numbers::compare(command, count()?, seed()?))
+            }
             Some(other) => Err(format!("unknown mode {other}")),
             None if arguments.untouched => {
                 untouched::table(count()?, seed()?);
@@ -121,7 +134,7 @@ fn show(index: u64, seed: u64) {
     let script = player::play(&case, &mut 0);
     for (line, answer) in script.lines.iter().zip(&script.answers) {
         println!("> {}", String::from_utf8_lossy(line));
-        answer.iter().for_each(|answer| println!("< {answer}"));
+        answer.iter().flat_map(|answer| answer.split('\n')).for_each(|line| println!("< {line}"));
     }
 }
 

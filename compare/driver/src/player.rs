@@ -9,7 +9,8 @@ use estimator::{hex, Requested, Variant};
 use oracle::form::Edit;
 use oracle::Host;
 
-/// A conversation: the host's lines, and the answer to each that has one.
+/// A conversation: the host's lines, and the answer to each that has one.  A page's
+/// answer has several lines.
 #[derive(Default)]
 pub struct Script {
     pub lines: Vec<Vec<u8>>,
@@ -52,6 +53,10 @@ struct Player {
     plan: VecDeque<Edit>,
     edits_left: usize,
     closed: bool,
+    /// For `(page)` alone, so that a case has the same other lines without it.
+    pages: Rng,
+    /// Whether the last answer ended a run, an opening or an edit.
+    ended: bool,
     script: Script,
 }
 
@@ -67,6 +72,8 @@ pub fn play(case: &Case, line: &mut u64) -> Script {
         plan: case.plan.iter().copied().collect(),
         edits_left: case.edits,
         closed: false,
+        pages: Rng::new(case.seed ^ 0x9a6e),
+        ended: false,
         script: Script::default(),
         case: case.clone(),
     };
@@ -103,6 +110,33 @@ pub fn recite(lines: &[Vec<u8>], line: &mut u64) -> Vec<Option<String>> {
     reciter.answers
 }
 
+/// A line that is almost `(page)`, and malformed.
+pub fn spoilt_page(rng: &mut Rng) -> Vec<u8> {
+    let lines = [
+        "(page )",
+        "( page)",
+        " (page)",
+        "(page) ",
+        "(page 0)",
+        "(page 1)",
+        "(page 11)",
+        "(page page)",
+        "(Page)",
+        "(PAGE)",
+        "(pages)",
+        "(pag)",
+        "(page",
+        "page)",
+        "page",
+        "((page))",
+        "(page)(page)",
+        "(page)\r",
+        "(page\0)",
+        "(page\t)",
+    ];
+    rng.pick(&lines).as_bytes().to_vec()
+}
+
 impl Host for Player {
     fn line(&mut self) -> Option<Vec<u8>> {
         let line = self.next_line()?;
@@ -120,6 +154,7 @@ impl Host for Player {
             }
             "report" => {
                 self.question = None;
+                self.ended = true;
                 if let Some((_, list)) = self.edit.take() {
                     self.book = list;
                 }
@@ -128,6 +163,7 @@ impl Host for Player {
             "declined" if matches!(words[1], "8" | "9" | "14") => {}
             "declined" => {
                 self.question = None;
+                self.ended = true;
                 self.edit = None;
             }
             _ => {}
@@ -137,6 +173,9 @@ impl Host for Player {
 
 impl Player {
     fn next_line(&mut self) -> Option<Vec<u8>> {
+        if let Some(line) = self.page_line() {
+            return Some(line);
+        }
         if let Some(line) = self.queue.pop_front() {
             return Some(line);
         }
@@ -179,10 +218,31 @@ impl Player {
             let line = self.between();
             self.queue.push_back(line);
         }
+        // Its request leaves what stands as it is, and the page too.
+        let page = self.case.pages > 0.0 && self.pages.chance(0.3);
         self.queue.push_back(write::entered([0.0, 0.0]).into_bytes());
+        self.queue.extend(page.then(|| b"(page)".to_vec()));
         self.queue.push_back(b"(open plain)".to_vec());
-        self.script.closing = 2;
+        self.script.closing = 2 + page as usize;
         self.next_line()
+    }
+
+    /// `(page)`, or now and then a line like it, where one comes before the due line.
+    fn page_line(&mut self) -> Option<Vec<u8>> {
+        let ended = std::mem::take(&mut self.ended);
+        let often = match &self.question {
+            _ if self.closed || self.case.pages == 0.0 => return None,
+            _ if ended => self.case.pages,
+            _ if !self.queue.is_empty() => 0.02,
+            Some(question) if question.list == "new" => 0.1,
+            Some(_) => 0.003,
+            None => 0.1,
+        };
+        if !self.pages.chance(often) {
+            return None;
+        }
+        let spoilt = self.pages.chance(0.1);
+        Some(if spoilt { spoilt_page(&mut self.pages) } else { b"(page)".to_vec() })
     }
 
     fn edit_line(&mut self, edit: Edit) -> Vec<u8> {
@@ -330,5 +390,50 @@ impl Player {
             }
         };
         text.into_bytes()
+    }
+}
+
+#[cfg(test)]
+mod tests {
+    use super::*;
+    use crate::rng::mix;
+
+    /// Without `(page)` and what is like it the conversation is the same, line for line.
+    #[test]
+    fn pages_change_nothing() {
+        let mut pages = 0;
+        for seed in 0..300 {
+            let case = Case::random(mix(seed));
+            let with = play(&case, &mut 0);
+            let without = play(&Case { pages: 0.0, ..case }, &mut 0);
+            // The number of a malformed line counts the others.
+            let unnumbered = |answer: &Option<String>| match answer {
+                Some(text) if text.starts_with("(malformed ") => Some("(malformed)".to_string()),
+                other => other.clone(),
+            };
+            let pairs = |script: &Script| -> Vec<(Vec<u8>, Option<String>)> {
+                let answers = script.answers.iter().map(unnumbered);
+                script.lines.iter().cloned().zip(answers).collect()
+            };
+            let about_a_page = |line: &[u8]| {
+                let text = line.to_ascii_lowercase();
+                text.len() < 20 && text.windows(3).any(|part| part == b"pag")
+            };
+            let mut left = pairs(&with);
+            let all = left.len();
+            left.retain(|(line, _)| !about_a_page(line));
+            pages += all - left.len();
+            assert!(left == pairs(&without), "seed {seed}");
+        }
+        assert!(pages > 300, "{pages}");
+    }
+
+    #[test]
+    fn spoilt_pages() {
+        let rng = &mut Rng::new(1);
+        for _ in 0..200 {
+            let line = spoilt_page(rng);
+            assert_eq!(oracle::form::read(&line), None, "{}", line.escape_ascii());
+        }
     }
 }

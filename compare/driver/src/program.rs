@@ -84,16 +84,20 @@ impl Program {
                     let _ = pipe.flush();
                 }
                 let Some(due) = due else { continue };
-                let found = match output.recv_timeout(patience) {
-                    Ok(line) => line,
-                    Err(_) => SILENCE.as_bytes().to_vec(),
-                };
-                if found.strip_suffix(b"\n") != Some(due.as_bytes()) {
-                    return Err(Difference {
-                        line: String::from_utf8_lossy(line).into_owned(),
-                        due: due.clone(),
-                        found: String::from_utf8_lossy(&found).trim_end().to_string(),
-                    });
+                // A page's answer has several lines.
+                for due in due.split('\n') {
+                    let found = match output.recv_timeout(patience) {
+                        Ok(line) => line,
+                        Err(_) => SILENCE.as_bytes().to_vec(),
+                    };
+                    if found.strip_suffix(b"\n") != Some(due.as_bytes()) {
+                        let found = String::from_utf8_lossy(&found);
+                        return Err(Difference {
+                            line: String::from_utf8_lossy(line).into_owned(),
+                            due: due.to_string(),
+                            found: found.strip_suffix('\n').unwrap_or(&found).to_string(),
+                        });
+                    }
                 }
             }
             Ok(())

@@ -3,17 +3,20 @@
 use std::io::{self, Write};
 use std::path::Path;
 
-use crate::case::Case;
+use crate::case::{odd, Case};
+use crate::edits;
+use crate::numbers::edge;
 use crate::player::{self, Script};
-use crate::rng::mix;
+use crate::rng::{mix, Rng};
 use crate::solver::{Base, Gap, Slip, Solver};
 use crate::tally::Tally;
 use crate::write;
 use estimator::{Opening, Requested, LIMIT};
 use oracle::form::Edit;
 
-/// About how many bytes the two files may have together, the long lists left out.
-const BYTES: usize = 400_000;
+/// About how many bytes the two files may have together, the long lists and all pages
+/// left out.
+const BYTES: usize = 402_500;
 const CASES: usize = 420;
 
 fn solver(base: Base) -> Solver {
@@ -23,7 +26,7 @@ fn solver(base: Base) -> Solver {
 fn case(entered: [f64; 2], shots: &[[f64; 3]], base: Base) -> Case {
     let opening = Opening { entered, shots: shots.to_vec(), ..Opening::default() };
     let solver = solver(base);
-    Case { seed: 1, opening, solver, noise: 0.0, edits: 0, plan: Vec::new() }
+    Case { seed: 1, opening, solver, noise: 0.0, edits: 0, plan: Vec::new(), pages: 0.0 }
 }
 
 fn wanted(mut case: Case, distances: &[f64]) -> Case {
@@ -98,9 +101,51 @@ pub fn named() -> Vec<(&'static str, Case)> {
     ]
 }
 
+/// The bench with requested distances, at one of which its drop is not a number; and
+/// reports with numbers of every kind, without and with intervals.
+pub fn pages() -> Vec<(&'static str, Case)> {
+    let mut bench = named().swap_remove(0).1;
+    let at = |distance: f64, sigma| Requested { distance, sigma };
+    bench.opening.distances = vec![at(150.0, Some(1.0)), at(160.0, None), at(170.0, None)];
+    bench.solver.gap = Gap::OddAt(170.0, f64::NAN);
+    bench.plan = vec![
+        Edit::TakeOut(4),
+        Edit::PutIn(4, 170.0, Some(1.0)),
+        Edit::Exchange(3, 180.0, None),
+        Edit::TakeOut(1),
+    ];
+    let mut step = named().into_iter().find(|c| c.0 == "step of not-a-number").expect("named").1;
+    step.opening.distances = vec![at(150.0, None)];
+    let mut numbers = vec![("page of the bench", bench), ("page of a fit of not-a-number", step)];
+    for (seed, intervals) in [(1, false), (2, false), (3, true), (4, true)] {
+        let rng = &mut Rng::new(seed);
+        numbers.push(("page of numbers", of_numbers(rng, intervals)));
+    }
+    numbers
+}
+
+/// A run with numbers of every kind that ends in a report, with intervals or without.
+fn of_numbers(rng: &mut Rng, intervals: bool) -> Case {
+    loop {
+        let mut case = Case { noise: 0.0, edits: 0, pages: 0.0, ..odd(1, rng) };
+        while case.opening.distances.len() < 20 {
+            let distance = edge(rng).abs();
+            if distance > 0.0 {
+                case.opening.distances.push(Requested { distance, sigma: None });
+            }
+        }
+        case.plan = vec![Edit::PutIn(2, 700.0, None)];
+        let (end, _) = edits::fresh(&case, &case.opening.distances);
+        let sound = matches!(case.solver.gap, Gap::Nothing) && end.starts_with("(report ");
+        if sound && end.contains("(Available ") == intervals {
+            return case;
+        }
+    }
+}
+
 /// As many records as a list may have: both lists at once, with edits of the
 /// longest report, and each alone.
-fn long() -> Vec<(&'static str, Case)> {
+pub fn long() -> Vec<(&'static str, Case)> {
     let flight = solver(Base::Flight);
     // With these figures each fit ends by its gradient, without a poll.
     let shot = |i: usize| {
@@ -163,10 +208,12 @@ fn plain_lines() -> Vec<String> {
     let mut lines: Vec<String> = Vec::new();
     let mut say = |line: &str| lines.push(line.to_string());
     // Before any session.
+    say("(page)");
     for line in ["(asked)", "(drops)", "(refused)", "(open plain)", "(take-out 1)", "(take-out 0)"]
     {
         say(line);
     }
+    say("(page)");
     for line in [&shots[0], &speed, &coefficient, &distance] {
         say(line);
     }
@@ -175,6 +222,7 @@ fn plain_lines() -> Vec<String> {
         say(line);
     }
     say("(open plain)");
+    say("(page)");
     say("(open plain)");
     for line in [&point, &shots[0], &speed, &speed, &shots[1]] {
         say(line);
@@ -235,6 +283,17 @@ fn plain_lines() -> Vec<String> {
         "(question shots 409f400000000000 3fd3333333333333)",
         "(declined 1 1)",
         "(asked 0)",
+        "(page",
+        "page)",
+        "(page )",
+        "( page)",
+        "(page 0)",
+        "(page 1)",
+        "(Page)",
+        "(PAGE)",
+        "(pages)",
+        "(page)\r",
+        "(page)(page)",
     ] {
         say(line);
     }
@@ -252,7 +311,8 @@ fn plain_lines() -> Vec<String> {
         say(line);
     }
     say("(open plain)");
-    for line in ["(asked)", "(drops)", "(drops missing)", "(take-out 1)", "(open plain)"] {
+    for line in ["(asked)", "(page)", "(drops)", "(drops missing)", "(take-out 1)", "(open plain)"]
+    {
         say(line);
     }
     say(&format!("(drops{})", format!(" {ten}").repeat(65)));
@@ -260,6 +320,7 @@ fn plain_lines() -> Vec<String> {
         say(&reply);
     }
     say(&point);
+    say("(page)");
     say(&shots[0]);
     say("(asked)");
     for _ in 0..5 {
@@ -271,8 +332,10 @@ fn plain_lines() -> Vec<String> {
     }
     say(&reply);
     say(&reply);
+    say("(page)");
     say("(refused)");
     say("(asked)");
+    say("(page)");
     // Edits of its report.
     let put = |place: &str, distance: f64, sigma: &str| {
         format!("(put-in {place} {} {sigma})", estimator::hex(distance))
@@ -284,28 +347,30 @@ fn plain_lines() -> Vec<String> {
     say(&put("3", 150.0, "none"));
     say(&put("2", 0.0, "none"));
     say(&put("1", 150.0, "8000000000000000"));
+    say("(page)");
     let one = format!("(drops {ten})");
-    let mut five = |first: String, replies: [&str; 5]| {
+    let mut edit = |first: String, lines: &[&str]| {
         say(&first);
-        for reply in replies {
-            say(reply);
+        for line in lines {
+            say(line);
         }
     };
-    five(put("2", 250.0, "3ff0000000000000"), [&one; 5]);
-    five(put("1", 50.0, "none"), [&one, &one, "(drops missing)", &one, &one]);
-    five(put("1", 50.0, "none"), [&one, "(refused)", &one, &one, "(asked)"]);
-    five(put("1", 50.0, "none"), [&one, &reply, "(take-out 1)", "(asked)", &one]);
-    five("(drops)".to_string(), [&one, &one, &one, "(take-out 3)", "(take-out 2)"]);
-    five("(exchange 1 4069000000000000 none)".to_string(), [&one; 5]);
-    five(
-        "(take-out 1)".to_string(),
-        ["(take-out 1)", "(take-out 1)", "(asked)", "(asked)", "(drops)"],
-    );
+    edit(put("2", 250.0, "3ff0000000000000"), &[&one, &one, "(page)", &one, &one, &one, "(page)"]);
+    edit(put("1", 50.0, "none"), &[&one, &one, "(drops missing)", &one, &one, "(page)"]);
+    edit(put("1", 50.0, "none"), &[&one, "(refused)", "(page)", &one, &one, "(asked)"]);
+    edit(put("1", 50.0, "none"), &["(page)", &one, &reply, "(take-out 1)", "(asked)", &one]);
+    edit("(drops)".to_string(), &["(page)", &one, &one, &one, "(take-out 3)", "(take-out 2)"]);
+    edit("(exchange 1 4069000000000000 none)".to_string(), &[one.as_str(); 5]);
+    edit("(page)".to_string(), &["(take-out 1)", "(page)", "(take-out 1)", "(take-out 1)"]);
+    edit("(asked)".to_string(), &["(asked)", "(drops)", "(page)", "(page)"]);
     // The request from the middle is still being made.
     say(&shots[1]);
+    say("(page)");
     say("(open plain)");
+    say("(page)");
     say("(refused)");
     say("(asked)");
+    say("(page)");
     say("(drops)");
     say("(refused)");
     // A gap, then a refused point: 10.  Gaps in several questions: the least
@@ -330,8 +395,24 @@ fn plain_lines() -> Vec<String> {
     run(11, &[&first, &reply, &reply, "(refused)"]);
     run(11, &[&reply, &second, &reply, &reply, &first]);
     run(11, &[&reply, &second, &reply, &reply, &reply]);
-    say(&write::entered([0.0, 0.0]));
+    // A page while the lines of the next request are read.
+    for line in [&point, &shots[0], &shots[1]] {
+        say(line);
+    }
     say("(open plain)");
+    for _ in 0..12 {
+        say(&reply);
+    }
+    for line in [&point, &shots[0], &speed, &coefficient, &distance] {
+        say("(page)");
+        say(line);
+    }
+    say("(take-out 1)");
+    say("(page)");
+    say(&write::entered([0.0, 0.0]));
+    say("(page)");
+    say("(open plain)");
+    say("(page)");
     lines
 }
 
@@ -402,10 +483,30 @@ fn openings() -> Vec<Case> {
     cases
 }
 
+/// The bytes of a conversation, pages left out.
 fn size(script: &Script) -> usize {
-    let lines: usize = script.lines.iter().map(|l| l.len() + 1).sum();
-    let answers: usize = script.answers.iter().flatten().map(|a| a.len() + 1).sum();
-    lines + answers
+    let lines = script.lines.iter().filter(|line| *line != b"(page)");
+    let answers = script.answers.iter().flatten().filter(|a| !a.starts_with("(page "));
+    lines.map(|l| l.len() + 1).sum::<usize>() + answers.map(|a| a.len() + 1).sum::<usize>()
+}
+
+/// A conversation with `(page)` after some of the lines that get a report or a refusal,
+/// told by their places among these; `line` goes on counting the lines.
+fn paged(script: &Script, line: &mut u64, after: impl Fn(usize) -> bool) -> Script {
+    let kept = script.lines.len() - script.closing;
+    let (mut lines, mut closing, mut ends) = (Vec::new(), 0, 0);
+    for (i, (text, answer)) in script.lines.iter().zip(&script.answers).enumerate() {
+        let first = lines.len();
+        lines.push(text.clone());
+        let answer = answer.as_deref().unwrap_or_default();
+        if answer.starts_with("(report ") || answer.starts_with("(declined ") {
+            lines.extend(after(ends).then(|| b"(page)".to_vec()));
+            ends += 1;
+        }
+        closing += if i < kept { 0 } else { lines.len() - first };
+    }
+    let answers = player::recite(&lines, line);
+    Script { lines, answers, closing }
 }
 
 /// Writes `stdin`, `stdout` and `cases`, the first line and name of each case.
@@ -417,7 +518,8 @@ pub fn write(directory: &Path) -> io::Result<()> {
     let answers = player::recite(&lines, &mut line);
     scripts.push(("plain lines".to_string(), Script { lines, answers, closing: 0 }));
     for (name, case) in named() {
-        scripts.push((name.to_string(), player::play(&case, &mut line)));
+        let script = player::play(&case, &mut line.clone());
+        scripts.push((name.to_string(), paged(&script, &mut line, |_| true)));
     }
     for (i, case) in openings().iter().enumerate() {
         // Some of them are sound: their runs are refused at once, to be short.
@@ -453,8 +555,7 @@ pub fn write(directory: &Path) -> io::Result<()> {
             if left == 0 || scripts.len() >= CASES || bytes > until - most {
                 break;
             }
-            let mut at = line;
-            let script = player::play(&Case::random(mix(seed)), &mut at);
+            let script = player::play(&Case::plain(mix(seed)), &mut line.clone());
             let taken = match pass {
                 0 => tally.would_show(&script),
                 1 => polled(&script),
@@ -467,21 +568,30 @@ pub fn write(directory: &Path) -> io::Result<()> {
                 continue;
             }
             left -= 1;
-            line = at;
+            let script = paged(&script, &mut line, |_| true);
             bytes += size(&script);
             tally.add(&script);
             scripts.push((format!("random {seed}"), script));
         }
     }
-    // The long lists come after these and are not counted among their bytes.
+    // The long lists and the pages' cases come after these and are not counted among their bytes.
     for (name, case) in long() {
-        let script = player::play(&case, &mut line);
+        let script = player::play(&case, &mut line.clone());
+        // After the run and after the last edit.
+        let script = paged(&script, &mut line, |end| end == 0 || end == case.plan.len());
+        bytes += size(&script);
+        tally.add(&script);
+        scripts.push((name.to_string(), script));
+    }
+    for (name, case) in pages() {
+        let script = player::play(&case, &mut line.clone());
+        let script = paged(&script, &mut line, |_| true);
         bytes += size(&script);
         tally.add(&script);
         scripts.push((name.to_string(), script));
     }
     tally.print();
-    println!("{} cases, {bytes} bytes", scripts.len());
+    println!("{} cases, {bytes} bytes without the pages", scripts.len());
 
     std::fs::create_dir_all(directory)?;
     let file = |name: &str| std::fs::File::create(directory.join(name)).map(io::BufWriter::new);
@@ -511,7 +621,6 @@ pub fn write(directory: &Path) -> io::Result<()> {
 mod tests {
     use super::*;
     use crate::case::answering;
-    use crate::edits;
     use estimator::{Place, Report, Variant};
 
     struct Seen {
@@ -706,13 +815,13 @@ mod tests {
                 script.answers[..kept].iter().flatten().filter(ends).collect();
             assert_eq!(found.len(), 1 + case.plan.len(), "{name}");
             let mut book = case.opening.distances.clone();
-            assert_eq!(*found[0], edits::fresh(&case, &book), "{name}");
+            assert_eq!(*found[0], edits::fresh(&case, &book).0, "{name}");
             for (edit, found) in case.plan.iter().zip(&found[1..]) {
                 let Some(list) = edits::made(*edit, &book) else {
                     assert_eq!(*found, "(declined 15 0)", "{name}: {edit:?}");
                     continue;
                 };
-                assert_eq!(**found, edits::fresh(&case, &list), "{name}: {edit:?}");
+                assert_eq!(**found, edits::fresh(&case, &list).0, "{name}: {edit:?}");
                 if found.starts_with("(report ") {
                     book = list;
                 } else {
@@ -722,6 +831,45 @@ mod tests {
         }
         let full = "(declined 6 0)";
         assert_eq!(refused, [full, full, "(declined 13 32)", "(declined 13 1)", full]);
+    }
+
+    /// The answers to `(page)` in a case of the list.
+    fn shown(case: &Case) -> Vec<String> {
+        let script = paged(&player::play(case, &mut 0), &mut 0, |_| true);
+        let page = |a: &String| a.starts_with("(page ");
+        script.answers.into_iter().flatten().filter(page).collect()
+    }
+
+    #[test]
+    fn page_of_the_bench() {
+        let (_, bench) = pages().swap_remove(0);
+        let found = shown(&bench);
+        let page = include_str!("../../vectors/l1-page-1.page");
+        assert_eq!(format!("{}\n", found[0]), format!("(page 11)\n{page}"));
+        let report = include_str!("../../vectors/l1-page-1.report");
+        assert_eq!(run(&bench).report.line + "\n", report);
+        // An edit that is refused leaves it, one that ends makes it anew, and after the
+        // declined opening there is none.
+        assert_eq!(found[1], found[0]);
+        let lines: Vec<usize> = found.iter().map(|page| page.lines().count() - 1).collect();
+        assert_eq!(lines, [11, 11, 12, 12, 11, 0]);
+    }
+
+    /// The pages of the list have numbers of every kind, and its intervals.
+    #[test]
+    fn pages_of_numbers() {
+        let all: Vec<String> = pages().iter().flat_map(|(_, case)| shown(case)).collect();
+        let has = |text: &str| all.iter().any(|page| page.contains(text));
+        for text in ["##############", "         0.000", "             -", "9999999999.999"] {
+            assert!(has(text), "{text}");
+        }
+        assert!(all.iter().all(|page| page.split('\n').skip(1).all(|line| line.len() == 64)));
+        // The latent interval is the drop itself where the numbers have intervals.
+        let ends = |page: &&String| {
+            let bands = page.lines().filter(|line| line.starts_with("distance "));
+            bands.filter(|l| l[20..34] == l[34..48] && !l.contains("  -")).count() > 5
+        };
+        assert!(all.iter().filter(ends).count() >= 4);
     }
 
     /// The files kept beside this program are those that it writes.

@@ -1,6 +1,7 @@
 //! Solvers of many kinds.  All are functions of the question; the slips alone
 //! depend on the question's number, and make the host inconsistent.
 
+use crate::numbers;
 use crate::rng::{mix, unit, Rng};
 use estimator::Reply;
 
@@ -28,6 +29,8 @@ pub enum Base {
     Axes { speed: f64, coefficient: f64 },
     /// Any bits at all.
     Wild,
+    /// By the distance alone, numbers of every kind.
+    Shelf,
     /// By the question's number alone.
     Turning { fall: f64 },
 }
@@ -44,6 +47,8 @@ pub enum Gap {
     RefusedNow(f64),
     OddNow(f64, f64),
     OddBeyond(f64, f64),
+    /// At one distance alone.
+    OddAt(f64, f64),
 }
 
 #[derive(Debug, Clone, Copy)]
@@ -155,6 +160,10 @@ impl Solver {
                 }
             }
             Base::Wild => f64::from_bits(self.hash(3, mv, bc, distance)),
+            Base::Shelf => {
+                let seed = self.hash(7, 0.0, 0.0, distance);
+                f64::from_bits(numbers::pattern(&mut Rng::new(seed)))
+            }
             Base::Turning { fall } => fall / number as f64 * (1.0 + 1e-3 * unit(mix(number))),
         };
         if self.noise == 0.0 {
@@ -177,6 +186,7 @@ impl Solver {
         match self.gap {
             Gap::OddNow(p, value) if unit(self.hash(6, mv, bc, distance)) < p => Some(value),
             Gap::OddBeyond(limit, value) if distance > limit => Some(value),
+            Gap::OddAt(place, value) if distance == place => Some(value),
             _ => Some(self.drop(number, mv, bc, distance)),
         }
     }

@@ -23,6 +23,10 @@ pub const WARNINGS: [&str; 10] = [
     "PredictionOutsideObservedDomain",
 ];
 
+/// A page's lines with numbers; the others are warnings.
+const LABELS: [&str; 5] = ["speed", "coefficient", "chi-square", "shot", "distance"];
+const NUMBERS: [&str; 4] = ["fixed", "fixed with a minus", "hyphen", "hashes"];
+
 #[derive(Default)]
 pub struct Tally {
     declined: [u64; 16],
@@ -36,6 +40,11 @@ pub struct Tally {
     no_baseline: u64,
     lines: u64,
     most_questions: u64,
+    pages: u64,
+    empty_pages: u64,
+    page_lines: u64,
+    phrases: u64,
+    numbers: [u64; NUMBERS.len()],
     facts: Facts,
 }
 
@@ -45,6 +54,7 @@ impl Tally {
         let kept = script.lines.len() - script.closing;
         self.lines += kept as u64;
         let mut questions = 0;
+        let mut before = "";
         for answer in script.answers[..kept].iter().flatten() {
             if let Some(rest) = answer.strip_prefix("(declined ") {
                 let number: usize = rest.split(' ').next().unwrap().parse().unwrap();
@@ -56,7 +66,13 @@ impl Tally {
                 questions += !answer.starts_with("(question new") as u64;
             } else if answer.starts_with("(malformed ") {
                 self.malformed += 1;
+            } else if answer.starts_with("(page ") {
+                self.page(answer);
+                if before.starts_with("(report ") {
+                    self.facts.page(before, answer);
+                }
             }
+            before = answer;
         }
         self.most_questions = self.most_questions.max(questions);
     }
@@ -76,6 +92,28 @@ impl Tally {
         }
         for (count, code) in self.warnings.iter_mut().zip(WARNINGS) {
             *count += line.contains(&format!("({code})")) as u64;
+        }
+    }
+
+    fn page(&mut self, answer: &str) {
+        let lines = answer.split('\n').skip(1);
+        self.pages += 1;
+        self.empty_pages += (lines.clone().next().is_none()) as u64;
+        for line in lines {
+            self.page_lines += 1;
+            if !LABELS.contains(&line[..20].trim_end()) {
+                self.phrases += 1;
+                continue;
+            }
+            for number in [&line[20..34], &line[34..48], &line[48..62]] {
+                let number = number.trim_start();
+                let fixed = number.contains('.');
+                let minus = fixed && number.starts_with('-');
+                let kinds = [fixed, minus, number == "-", number.starts_with('#')];
+                for (count, is) in self.numbers.iter_mut().zip(kinds) {
+                    *count += is as u64;
+                }
+            }
         }
     }
 
@@ -114,6 +152,13 @@ impl Tally {
         }
         for (count, name) in self.warnings.iter().zip(WARNINGS) {
             row(format!("warning {name}"), *count);
+        }
+        row("page".to_string(), self.pages);
+        row("page where no report stands".to_string(), self.empty_pages);
+        row("page's lines".to_string(), self.page_lines);
+        row("page's lines with a warning".to_string(), self.phrases);
+        for (count, name) in self.numbers.iter().zip(NUMBERS) {
+            row(format!("page's numbers: {name}"), *count);
         }
         all & self.facts.print()
     }

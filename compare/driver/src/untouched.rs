@@ -43,7 +43,7 @@ pub fn table(count: u64, seed: u64) {
     let (mut reports, mut any, mut asked, mut ended, mut runs) =
         ([0u64; 2], [0u64; 2], [0u64; 2], 0, 0);
     for index in 0..count {
-        let case = Case::random(case_seed(seed, index));
+        let case = Case::plain(case_seed(seed, index));
         if estimator::opening_refusal(&case.opening).is_some() {
             continue;
         }

@@ -47,12 +47,28 @@ pub struct Opening {
     pub distances: Vec<Requested>,
 }
 
-/// A report: its line, its leaves by name, and the fitted point.
+/// A report: its line, its leaves by name, the fitted point, and what its page shows.
 #[derive(Debug, Clone)]
 pub struct Report {
     pub line: String,
     pub leaves: Vec<(&'static str, String)>,
     pub fit: (f64, f64),
+    pub sheet: Sheet,
+}
+
+/// The numbers and names on a report's page, line by line; a number may be missing.
+#[derive(Debug, Clone, PartialEq)]
+pub struct Sheet {
+    /// The fitted value and its interval's ends.
+    pub speed: [Option<f64>; 3],
+    pub coefficient: [Option<f64>; 3],
+    pub chi_square: f64,
+    /// Distance, measured drop and the drop predicted at the fit.
+    pub shots: Vec<[f64; 3]>,
+    /// The predicted drop and the latent interval's ends.
+    pub distances: Vec<[Option<f64>; 3]>,
+    /// The codes' names in the source.
+    pub warnings: Vec<String>,
 }
 
 /// A refusal's number and position.

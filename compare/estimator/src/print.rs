@@ -1,7 +1,7 @@
 //! A report as docs/PROTOCOL.md writes it, with each leaf's name kept beside it so
 //! that two reports can be compared field by field.
 
-use crate::Report;
+use crate::{Report, Sheet};
 
 /// The 16 hexadecimal digits of a double; every not-a-number has the same.
 pub fn hex(value: f64) -> String {
@@ -74,8 +74,8 @@ impl Printer {
         }
     }
 
-    pub(crate) fn finish(mut self, fit: (f64, f64)) -> Report {
+    pub(crate) fn finish(mut self, fit: (f64, f64), sheet: Sheet) -> Report {
         self.line.push(')');
-        Report { line: self.line, leaves: self.leaves, fit }
+        Report { line: self.line, leaves: self.leaves, fit, sheet }
     }
 }

@@ -115,7 +115,32 @@ fn print_report(report: &UncertaintyTruingReportV1) -> crate::Report {
             out.group(|out| out.code("warnings", warning.code));
         }
     });
-    out.finish((report.map_muzzle_velocity_fps, report.map_ballistic_coefficient))
+    let fit = (report.map_muzzle_velocity_fps, report.map_ballistic_coefficient);
+    out.finish(fit, sheet_of(report))
+}
+
+/// What the report's page shows: the fit's own values, never the baseline's.
+fn sheet_of(report: &UncertaintyTruingReportV1) -> crate::Sheet {
+    let with_ends = |value: f64, interval: Option<GaussianIntervalV1>| {
+        [Some(value), interval.map(|i| i.lower), interval.map(|i| i.upper)]
+    };
+    let (speed, coefficient) = match &report.approximation {
+        TruingApproximationV1::Available(a) => {
+            (Some(a.muzzle_velocity_interval_95), Some(a.ballistic_coefficient_interval_95))
+        }
+        TruingApproximationV1::Unavailable(_) => (None, None),
+    };
+    let observations = report.observations.iter();
+    let bands = report.predictive_bands.iter();
+    let warnings = report.warnings.iter();
+    crate::Sheet {
+        speed: with_ends(report.map_muzzle_velocity_fps, speed),
+        coefficient: with_ends(report.map_ballistic_coefficient, coefficient),
+        chi_square: report.diagnostics.chi_square,
+        shots: observations.map(|o| [o.range_yd, o.observed_drop, o.predicted_drop]).collect(),
+        distances: bands.map(|b| with_ends(b.predicted_drop, b.latent_interval_95)).collect(),
+        warnings: warnings.map(|w| format!("{:?}", w.code)).collect(),
+    }
 }
 
 fn print_observations(

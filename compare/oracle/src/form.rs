@@ -14,6 +14,7 @@ pub enum Form {
     Refused,
     Edit(Edit),
     Asked,
+    Page,
 }
 
 #[derive(Debug, Clone, Copy, PartialEq)]
@@ -68,12 +69,13 @@ pub fn read(line: &[u8]) -> Option<Form> {
             Some(Form::Edit(Edit::Exchange(count(p)?, double(a)?, optional(b, b"none")?)))
         }
         (b"asked", []) => Some(Form::Asked),
+        (b"page", []) => Some(Form::Page),
         _ => None,
     }
 }
 
 /// 16 lower-case hexadecimal digits; any not-a-number is read as one.
-fn double(word: &[u8]) -> Option<f64> {
+pub fn double(word: &[u8]) -> Option<f64> {
     if word.len() != 16 {
         return None;
     }

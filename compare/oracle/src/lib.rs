@@ -4,14 +4,16 @@
 //! desk reads the host's lines there until a reply is taken.
 
 pub mod form;
+pub mod page;
 
-use estimator::{hex, Opening, Place, Refusal, Reply, Report, Requested, Variant, LIMIT};
+use estimator::{hex, Opening, Place, Refusal, Reply, Report, Requested, Sheet, Variant, LIMIT};
 use form::{Edit, Form};
 
 /// The other end of the conversation.
 pub trait Host {
     /// The next line with its line feed, if it has one; nothing at the end.
     fn line(&mut self) -> Option<Vec<u8>>;
+    /// An answer without its last line feed; a page is one answer of several lines.
     fn answer(&mut self, text: &str);
 }
 
@@ -98,6 +100,8 @@ struct Standing {
     /// For each requested distance its five drops.
     rows: Vec<[f64; 5]>,
     fit: (f64, f64),
+    /// What its page shows.
+    sheet: Sheet,
 }
 
 impl Desk<'_> {
@@ -109,7 +113,7 @@ impl Desk<'_> {
         self.say(&format!("(declined {number} {position})"));
     }
 
-    /// The next call; request lines, counts and malformed lines are met here.
+    /// The next call; request lines, counts, pages and malformed lines are met here.
     fn call(&mut self) -> Call {
         loop {
             let Some(line) = self.host.line() else {
@@ -122,6 +126,11 @@ impl Desk<'_> {
                 Some(Form::Refused) => return Call::Reply(None),
                 Some(Form::Edit(edit)) => return Call::Edit(edit),
                 Some(Form::Asked) => self.say(&format!("(asked {})", self.asked)),
+                Some(Form::Page) => {
+                    // While a run or an edit asks, none stands: it is taken out meanwhile.
+                    let page = page::answer(self.standing.as_ref().map(|s| &s.sheet));
+                    self.say(&page);
+                }
                 Some(Form::Open) if self.due > Due::Nothing => {
                     self.due = Due::Nothing;
                     return Call::Open;
@@ -210,7 +219,8 @@ impl Desk<'_> {
         match outcome {
             Ok(report) => {
                 self.say(&report.line);
-                self.standing = Some(Standing { opening, shots, rows, fit: report.fit });
+                let Report { fit, sheet, .. } = report;
+                self.standing = Some(Standing { opening, shots, rows, fit, sheet });
             }
             Err(refusal) => self.declined(refusal),
         }
@@ -230,6 +240,7 @@ impl Desk<'_> {
                 standing.rows = rows;
                 let report = standing.again(self.variant);
                 self.say(&report.line);
+                standing.sheet = report.sheet;
             }
             Err(refusal) => self.declined(refusal),
         }

@@ -1,10 +1,11 @@
 //! `oracle [--untouched]`: PROTOCOL.md's lines on standard input, the answers on
-//! standard output.
+//! standard output.  `oracle --numbers`: for each line of a double's digits its 14
+//! columns of a page.
 
 use std::io::{self, BufRead, BufReader, BufWriter, Write};
 
 use estimator::Variant;
-use oracle::{serve, Host};
+use oracle::{form, page, serve, Host};
 
 struct Pipes {
     input: BufReader<io::Stdin>,
@@ -30,11 +31,23 @@ impl Host for Pipes {
     }
 }
 
+fn numbers(pipes: &mut Pipes) {
+    while let Some(line) = pipes.line() {
+        let Some(number) = line.strip_suffix(b"\n").and_then(form::double) else {
+            eprintln!("oracle: not a double's digits: {}", line.escape_ascii());
+            std::process::exit(2);
+        };
+        pipes.answer(&page::field(Some(number)));
+    }
+}
+
 fn main() {
     let mut variant = Variant::Recipes;
+    let mut doubles = false;
     for argument in std::env::args().skip(1) {
         match argument.as_str() {
             "--untouched" => variant = Variant::Untouched,
+            "--numbers" => doubles = true,
             other => {
                 eprintln!("oracle: unknown argument {other}");
                 std::process::exit(2);
@@ -43,6 +56,10 @@ fn main() {
     }
     let mut pipes =
         Pipes { input: BufReader::new(io::stdin()), output: BufWriter::new(io::stdout()) };
-    serve(&mut pipes, variant, &mut 0);
+    if doubles {
+        numbers(&mut pipes);
+    } else {
+        serve(&mut pipes, variant, &mut 0);
+    }
     let _ = pipes.output.flush();
 }

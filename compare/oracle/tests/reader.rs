@@ -49,6 +49,7 @@ fn the_table() {
     let exchange = Form::Edit(Edit::Exchange(7, 100.0, Some(100.0)));
     assert_eq!(form(format!("(exchange 7 {H} {H})")), exchange);
     assert_eq!(form("(asked)".to_string()), Form::Asked);
+    assert_eq!(form("(page)".to_string()), Form::Page);
 }
 
 #[test]
@@ -137,6 +138,25 @@ fn lines_that_are_none() {
         "(declined 8 0)".to_string(),
         "(malformed 1)".to_string(),
         "(report)".to_string(),
+        "page".to_string(),
+        "(page".to_string(),
+        "page)".to_string(),
+        "(page )".to_string(),
+        "( page)".to_string(),
+        "(page) ".to_string(),
+        " (page)".to_string(),
+        "(page 0)".to_string(),
+        "(page 1)".to_string(),
+        format!("(page {H})"),
+        "(pages)".to_string(),
+        "(pag)".to_string(),
+        "(Page)".to_string(),
+        "(PAGE)".to_string(),
+        "((page))".to_string(),
+        "(page)(page)".to_string(),
+        "(page)\r".to_string(),
+        "(page\0)".to_string(),
+        "(page\t)".to_string(),
     ];
     for line in spoilt {
         assert!(!is_form(line.as_bytes()), "{line:?}");
@@ -144,7 +164,9 @@ fn lines_that_are_none() {
     }
     // In a line one byte may be another only where it is a digit, and only another digit.
     let hexadecimal = |b: u8| b.is_ascii_digit() || (b'a'..=b'f').contains(&b);
-    for good in [format!("(put-in 12 {H} none)"), format!("(drops {H} missing)")] {
+    for good in
+        [format!("(put-in 12 {H} none)"), format!("(drops {H} missing)"), "(page)".to_string()]
+    {
         for at in 0..good.len() {
             let place = good.starts_with("(put-in 12") && (at == 8 || at == 9);
             let double = !place && good.as_bytes()[at].is_ascii_digit();
@@ -292,8 +314,10 @@ fn many_entries() {
 
 #[test]
 fn no_session() {
-    let tries = "(drops)\n(refused)\n(take-out 1)\n(put-in 1 4059000000000000 none)\n(asked)\n";
-    let none = "(declined 8 0)\n(declined 8 0)\n(declined 14 0)\n(declined 14 0)\n(asked 0)\n";
+    let tries = "(drops)\n(refused)\n(take-out 1)\n(put-in 1 4059000000000000 none)\n(asked)\n\
+                 (page)\n";
+    let none = "(declined 8 0)\n(declined 8 0)\n(declined 14 0)\n(declined 14 0)\n(asked 0)\n\
+                (page 0)\n";
     assert_eq!(due(tries.as_bytes()), none);
     // A request that is being made is no session, and its lines go on afterwards.
     let input = format!("{ENTERED}{tries}{SHOTS}{tries}(open plain)\n");
@@ -338,4 +362,77 @@ fn lines_of_a_request_in_their_place() {
         assert_eq!(taken(&[ENTERED, "(open plain)\n", first]), 2, "{first}");
     }
     assert_eq!(taken(&[ENTERED, "(open plain)\n", "(open plain)\n"]), 2);
+}
+
+const FIRST: &str = "(question distances 409f400000000000 3fd3333333333333)";
+
+/// A page of the bench with these numbers of one distance's line, or without it.
+fn page(distance: Option<&str>) -> String {
+    let mut lines = vec![
+        "speed                     2000.000             -             -  ".to_string(),
+        "coefficient                  0.300             -             -  ".to_string(),
+        "chi-square                   1.000                              ".to_string(),
+        "shot                       100.000        10.000        10.000  ".to_string(),
+        "shot                       200.000        11.000        10.000  ".to_string(),
+    ];
+    lines.extend(
+        distance.map(|drop| format!("distance      {drop:>20}             -             -  ")),
+    );
+    for phrase in ["WeakBcSensitivity", "IllConditionedData", "GaussianApproximationUna"] {
+        lines.push(format!("{phrase:<64}"));
+    }
+    format!("(page {})\n{}\n", lines.len(), lines.join("\n"))
+}
+
+/// Where a page is asked for: nowhere does it change anything, and it is that of the
+/// report that stands.
+#[test]
+fn pages() {
+    let ten = "4024000000000000";
+    let reply = format!("(drops {ten} {ten})\n");
+    let one = format!("(drops {ten})\n");
+    let distance = "(distance 4062c00000000000 none)\n";
+    let request = format!("{ENTERED}(page)\n{SHOTS}(page)\n{distance}(page)\n(open plain)\n");
+    // The fit's questions, the distance's five and the baseline's.
+    let run = format!("{}(page)\n{}(page)\n{reply}", reply.repeat(11), one.repeat(5));
+    let said = due(format!("{request}(page)\n{run}(page)\n(page)\n").as_bytes());
+    let empty = "(page 0)\n";
+    let shown = page(Some("10.000"));
+    let parts: Vec<&str> = said.split(empty).collect();
+    assert_eq!(parts.len(), 7, "{said}");
+    assert_eq!(parts[..4], ["", "", "", QUESTION]);
+    assert!(parts[4].ends_with(&format!("{FIRST}\n")) && parts[4].lines().count() == 11);
+    assert!(parts[5].ends_with(QUESTION) && parts[5].lines().count() == 5);
+    let report = parts[6].lines().next().expect("a report");
+    assert!(report.starts_with("(report 1 "));
+    assert_eq!(parts[6], format!("{report}\n{shown}{shown}"));
+
+    let (request, run) = (request.replace("(page)\n", ""), run.replace("(page)\n", ""));
+    let before = due(format!("{request}{run}").as_bytes());
+    let then = |lines: &str| {
+        let said = due(format!("{request}{run}{lines}").as_bytes());
+        said.strip_prefix(&before).expect("the same run").to_string()
+    };
+    // A new request leaves it, until its opening; a declined one takes it away.
+    assert_eq!(then(&format!("{ENTERED}(page)\n")), shown);
+    assert_eq!(then(&format!("{ENTERED}{SHOTS}(page)\n(asked)\n")), format!("{shown}(asked 17)\n"));
+    let refused = "(declined 2 0)\n";
+    assert_eq!(then(&format!("{ENTERED}(open plain)\n(page)\n")), format!("{refused}{empty}"));
+    let again = format!("{ENTERED}{SHOTS}(open plain)\n(page)\n(refused)\n(page)\n");
+    assert_eq!(then(&again), format!("{QUESTION}{empty}(declined 10 0)\n{empty}"));
+    // So do replies and edits that are refused.
+    let tries = "(drops)\n(page)\n(take-out 2)\n(page)\n(put-in 1 0000000000000000 none)\n(page)\n";
+    let declined = ["(declined 8 0)\n", "(declined 15 0)\n", "(declined 7 1)\n"];
+    assert_eq!(then(tries), declined.map(|d| format!("{d}{shown}")).concat());
+    // While an edit asks none stands; refused it leaves the old one, ended it brings its own.
+    let edit = "(exchange 1 4064000000000000 none)\n";
+    let question = "(question new 409f400000000000 3fd3333333333333)\n";
+    let lines = format!("{edit}(page)\n(refused)\n(page)\n");
+    assert_eq!(then(&lines), format!("{question}{empty}(declined 10 0)\n{shown}"));
+    let odd = "(drops 7ff0000000000000)\n";
+    let said = then(&format!("{edit}{odd}{}(page)\n{odd}(page)\n", one.repeat(3)));
+    assert_eq!(said.matches(empty).count(), 1);
+    assert!(said.ends_with(&page(Some("-"))), "{said}");
+    let said = then("(take-out 1)\n(page)\n");
+    assert!(said.ends_with(&page(None)), "{said}");
 }
