@@ -82,7 +82,7 @@ run-bounded s p e = by (standsIn s) refl
         subst Bounded same (bounded (s .body) (standing-within s f))
     by false f = absurd (nothing (not-standing s f) e)
 
-shown-bounded : (s : Running) (x : Editing) (p : Report) → reportIn (stateBy s x) ≡ some p → Bounded p
+pub shown-bounded : (s : Running) (x : Editing) (p : Report) → reportIn (stateBy s x) ≡ some p → Bounded p
 shown-bounded s Closed p e = run-bounded s p e
 shown-bounded s (Asks x) p e = absurd (nothing (open-none (run.state s) x) e)
 

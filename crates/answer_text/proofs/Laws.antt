@@ -30,7 +30,7 @@ place-list f i (some p) = refl
 
 module _ {A : Type 0} where
   -- a list up to a place that is there, and up to one that is not
-  taken : (l : List A) (i : ℕ) (a : A) → nth i l ≡ some a → (take (suc i) l ≡ take i l ++ (a ∷ [])) × (length (take i l) ≡ i)
+  pub taken : (l : List A) (i : ℕ) (a : A) → nth i l ≡ some a → (take (suc i) l ≡ take i l ++ (a ∷ [])) × (length (take i l) ≡ i)
   taken [] i a e = let z : _≡_ {A = ℕ} 0 1 = cc in absurd (omega arith)
   taken (x ∷ l) zero a e = let s : x ≡ a = cc in (ap (λ (y : A). y ∷ []) s, refl)
   taken (x ∷ l) (suc i) a e = let r = taken l i a e in (ap (λ (m : List A). x ∷ m) (r .0), ap suc (r .1))
@@ -65,7 +65,7 @@ module _ {A : Type 0} where
 -- ---- the report
 
 module _ (s : Session) (h : UncertaintyTruingReportV1) (p : Report) (e : reportIn (state s) ≡ some p) (d : HeadOf h p) where
-  results-are : take (h .observations) (resultsIn false s) ≡ p .observations
+  pub results-are : take (h .observations) (resultsIn false s) ≡ p .observations
   results-are =
       ap (λ (x : Option Report). take (h .observations) (listIn (λ q. q .observations) x)) e
       ∙ take-all (h .observations) (p .observations) (let k = d .results in omega arith)
@@ -75,7 +75,7 @@ module _ (s : Session) (h : UncertaintyTruingReportV1) (p : Report) (e : reportI
       ap (λ (x : Option Report). take (h .observations) (listIn baselineResults x)) e
       ∙ take-all (h .observations) (ofBaseline (p .baseline)) (d .baseline-results)
 
-  bands-are : take (h .«predictive_bands») (bandsIn s) ≡ p .bands
+  pub bands-are : take (h .«predictive_bands») (bandsIn s) ≡ p .bands
   bands-are =
       ap (λ (x : Option Report). take (h .«predictive_bands») (listIn (λ q. q .bands) x)) e
       ∙ take-all (h .«predictive_bands») (p .bands) (let k = d .bands in omega arith)

@@ -143,3 +143,4 @@ answer-short s u k (form.putIn place range sigma) = refl
 answer-short s u k (form.takeOut place) = refl
 answer-short s u k (form.exchange place range sigma) = refl
 answer-short s u k form.asked = refl
+answer-short s u k form.page = refl

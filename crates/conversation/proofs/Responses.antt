@@ -2,7 +2,7 @@
 use Prim.Native.Nat.{ℕ, zero, suc, _+_, _≤_, _<_}
 use mathlib.Core.Path.{_≡_, refl, sym, ap, _∙_, subst}
 use mathlib.Core.Bool.{Bool, true, false, cond, _&&_}
-use mathlib.Core.List.{List, [], _∷_, _++_, map}
+use mathlib.Core.List.{List, [], _∷_, _++_, map, append-assoc}
 use mathlib.Core.Option.{Option}
 use native.Mathlib.Numerals.{add-one}
 use native.Mathlib.Omega.{arith}
@@ -32,13 +32,15 @@ use Rattle.lines.specs.declared.Line.{Line}
 use Rattle.lines.specs.declared.ReadForm.{ReadForm}
 use Rattle.report_text.proofs.Writing as writing
 use Rattle.report_text.specs.Writing.{Text, Writes}
-use Rattle.report_text.proofs.Lengths.{asked-length, malformed-length}
-use Rattle.report_text.specs.Texts.{askedText, malformedText}
+use Rattle.report_text.proofs.Lengths.{asked-length, page-count-length, malformed-length}
+use Rattle.report_text.specs.Texts.{askedText, pageCountText, malformedText}
 use Rattle.answer_text.specs.Answers as answers
 use Rattle.answer_text.specs.Answers.{saidText, line}
 use Rattle.answer_text.proofs.Fits.{answer-fits}
+use Rattle.page_text.specs.Page.{linesIn, pageIn}
+use Rattle.page.proofs.Laws.{page-length}
 use Rattle.conversation.specs.Conversation.{Conversation, Answer, malformedAt, Answered, answerText, malformedLine, collected, inPlace, opens, calls}
-use Rattle.conversation.specs.Conversation.{replyOf, nextLine, answerTo}
+use Rattle.conversation.specs.Conversation.{replyOf, nextLine, answerTo, pageAnswer}
 use Rattle.requests.specs.Kept.{kept, openingIn, Keeps}
 use Rattle.conversation.specs.Tracks.{Stands, Tracks, responseSays, responseText, Responds, Fills}
 use Rattle.conversation.specs.declared.Section.{Section}
@@ -91,6 +93,9 @@ module _ (h : Held) (u : Conversation) (k : Tracks h u) where
       → Responds (record { conversation = h; response = response.Asked n }) (u, Answer.count (put (whole (u .opening)) (u .at .run)))
   asked-responds n e = record { conversation = k; says = ap Answer.count (e ∙ counts (h .session) (u .opening) (u .at) (k .session)) }
 
+  pub page-responds : Responds (record { conversation = h; response = response.Page }) (u, Answer.shownPage)
+  page-responds = record { conversation = k; says = refl }
+
   -- ---- the next line
 
   pub next-more : h .lines < 0xffff_ffff_ffff_ffff
@@ -121,7 +126,24 @@ module _ (h : Held) (u : Conversation) (k : Tracks h u) where
       by response.Nothing = refl
       by (response.Malformed n) = refl
       by (response.Asked n) = refl
+      by response.Page = ap pageAnswer (reported (h .session) (u .opening) (u .at) (k .session))
       by (response.Says step) = ap (λ (p : Option Report). line (saidText step p)) (reported (h .session) (u .opening) (u .at) (k .session))
+
+-- the page behind its head
+pub page-head : (n k : ℕ) (t : Text) → n ≡ k → pageCountText n ++ ((10 ∷ []) ++ t) ≡ line (pageCountText k) ++ t
+page-head n k t e = ap (λ (m : ℕ). pageCountText m ++ (10 ∷ t)) e ∙ sym (append-assoc (pageCountText k) (10 ∷ []) t)
+
+-- the page and its head fit the buffer
+page-fits : (s : Session) → length (pageAnswer (reportIn (state s))) ≤ 32768
+page-fits s =
+    let head = pageCountText (length (linesIn (reportIn (state s)))) in
+    omega (
+      arith,
+      page-count-length (length (linesIn (reportIn (state s)))),
+      length-append head (10 ∷ []),
+      length-append (line head) (pageIn (reportIn (state s))),
+      page-length s,
+    )
 
 -- every response fits the buffer
 pub response-fits : (s : Session) (r : Response) → length (responseText s r) ≤ 32768
@@ -129,6 +151,7 @@ unfolding answers.answerText
 response-fits s response.Nothing = omega arith
 response-fits s (response.Malformed n) = omega (arith, malformed-length n, length-append (malformedText n) (10 ∷ []))
 response-fits s (response.Asked n) = omega (arith, asked-length n, length-append (askedText n) (10 ∷ []))
+response-fits s response.Page = page-fits s
 response-fits s (response.Says step) = answer-fits (record { step = step; session = s })
 
 -- a text that fits is written whole

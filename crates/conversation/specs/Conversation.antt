@@ -4,21 +4,25 @@
 use Prim.Native.Nat.{ℕ}
 use mathlib.Core.Bool.{Bool, true, false}
 use mathlib.Core.List.{List, [], _∷_, _++_, map}
+use mathlib.Core.Option.{Option}
+use lib.ListN.{length}
 use lib.Ieee.{Float}
 use Rattle.numeric.specs.Numeric.{zero64}
 use Rattle.definition.specs.Request.{Opening}
 use Rattle.definition.specs.Run.{Entry, dropOr0, isMissing}
 use Rattle.definition.specs.Laws.{put}
+use Rattle.definition.specs.Summary.{Report}
 use Rattle.definition.specs.Whole as edits
 use Rattle.definition.specs.Whole.{whole}
 use Rattle.definition.specs.Session.{head, moreOf}
 use Rattle.definition.specs.declared.Step.{Step}
 use Rattle.demands.specs.Calls.{Call, reply, refusePoint, change, At, first, finishedAt, reportBy, afterCall, dueTo}
 use Rattle.lines.specs.Lines.{Form, malformed, entered, shot, priorSpeed, priorCoefficient, distance, openPlain, drops, refused, putIn, takeOut, exchange}
-use Rattle.lines.specs.Lines.{asked}
+use Rattle.lines.specs.Lines.{asked, page}
 use Rattle.report_text.specs.Writing.{Text}
-use Rattle.report_text.specs.Texts.{askedText, malformedText}
+use Rattle.report_text.specs.Texts.{askedText, pageCountText, malformedText}
 use Rattle.answer_text.specs.Answers.{saidText, line}
+use Rattle.page_text.specs.Page.{linesIn, pageIn}
 use Rattle.requests.specs.Request.{emptyRequest, withShot, withSpeed, withCoefficient, withDistance, normal, requestedWith}
 use Rattle.conversation.specs.declared.Section.{Section}
 use Rattle.conversation.specs.declared.Section.the-variants.{Closed, Shots, Priors, Distances}
@@ -78,6 +82,8 @@ pub data Answer : Type 0 where
   malformedAt : ℕ → Answer
   -- how many questions the run has put
   count : ℕ → Answer
+  -- the page of the report that stands
+  shownPage : Answer
   -- what is said to a call
   says : Step → Answer
 
@@ -130,14 +136,20 @@ answerTo t (putIn place range sigma) = calls t (change (edits.putIn place (reque
 answerTo t (takeOut place) = calls t (change (edits.takeOut place))
 answerTo t (exchange place range sigma) = calls t (change (edits.exchange place (requestedWith range sigma)))
 answerTo t asked = (t, count (put (whole (t .opening)) (t .at .run)))
+answerTo t page = (t, shownPage)
 
 -- ---- texts
+
+-- how many lines the page has, and these
+abbrev pub pageAnswer : Option Report → Text
+pageAnswer shown = line (pageCountText (length (linesIn shown))) ++ pageIn shown
 
 -- what is said comes with the report that stands then
 abbrev pub answerText : Conversation → Answer → Text
 answerText t nothing = []
 answerText t (malformedAt n) = line (malformedText n)
 answerText t (count n) = line (askedText n)
+answerText t shownPage = pageAnswer (reportBy (finishedAt (t .opening) (t .at)))
 answerText t (says x) = line (saidText x (reportBy (finishedAt (t .opening) (t .at))))
 
 abbrev pub textOf : Answered → Text

@@ -15,7 +15,7 @@ use Rattle.demands.specs.Standing.{Inv}
 use Rattle.report_text.specs.Writing.{Text}
 use Rattle.report_text.specs.Texts.{askedText, malformedText}
 use Rattle.answer_text.specs.Answers.{saidText, line}
-use Rattle.conversation.specs.Conversation.{Conversation, Answer, nothing, malformedAt, count, says, Answered, nextLine, answerTo, textOf, unendedText}
+use Rattle.conversation.specs.Conversation.{Conversation, Answer, nothing, malformedAt, count, shownPage, says, Answered, nextLine, answerTo, pageAnswer, textOf, unendedText}
 use Rattle.requests.specs.Kept.{kept, Keeps}
 use Rattle.conversation.specs.declared.Conversation.{Conversation as Held}
 use Rattle.conversation.specs.declared.Response.{Response}
@@ -53,6 +53,7 @@ abbrev pub responseSays : Response → Answer
 responseSays response.Nothing = nothing
 responseSays (response.Malformed n) = malformedAt n
 responseSays (response.Asked n) = count n
+responseSays response.Page = shownPage
 responseSays (response.Says step) = says step
 
 -- by the session that the code holds
@@ -60,6 +61,7 @@ abbrev pub responseText : Session → Response → Text
 responseText s response.Nothing = []
 responseText s (response.Malformed n) = line (malformedText n)
 responseText s (response.Asked n) = line (askedText n)
+responseText s response.Page = pageAnswer (reportIn (state s))
 responseText s (response.Says step) = line (saidText step (reportIn (state s)))
 
 pub record Responds (r : Responded) (a : Answered) : Type 0 where

@@ -14,14 +14,14 @@ ghost use Rattle.report.specs.Reading.{reportIn};
 ghost use Rattle.editing.specs.Meaning.{state, seen};
 ghost use Rattle.demands.specs.Calls.{Call};
 ghost use Rattle.demands.specs.Demands.{Meets};
-ghost use Rattle.lines.specs.Lines.{entered, shot, priorSpeed, priorCoefficient, distance, openPlain, drops, refused, putIn, takeOut, exchange, asked};
+ghost use Rattle.lines.specs.Lines.{entered, shot, priorSpeed, priorCoefficient, distance, openPlain, drops, refused, putIn, takeOut, exchange, asked, page};
 ghost use Rattle.lines.specs.Reading.{entriesIn, formIn};
 ghost use Rattle.report_text.specs.Writing.{Writes};
 ghost use Rattle.report_text.specs.Texts.{askedText, malformedText};
 ghost use Rattle.answer_text.specs.Answers.{saidText, line};
 ghost use Rattle.requests.specs.Kept.{Keeps};
 ghost use Rattle.conversation.specs.Conversation as defined;
-ghost use Rattle.conversation.specs.Conversation.{takesShot, takesCoefficient, takesDistance, malformedLine, calls, answerTo, nextLine, initial};
+ghost use Rattle.conversation.specs.Conversation.{takesShot, takesCoefficient, takesDistance, malformedLine, calls, answerTo, nextLine, pageAnswer, initial};
 ghost use Rattle.conversation.specs.Tracks.{Tracks, responseText, Responds, Answers, AnswersUnended};
 
 // The section that the request is in: none before (entered ..) and after (open plain). In each a line of a later one may come.
@@ -40,11 +40,12 @@ pub struct Conversation {
     session: Session,
 }
 
-// What is written to a line: nothing, that it is malformed, the count, or the session's answer.
+// What is written to a line: nothing, that it is malformed, the count, the page, or the session's answer.
 pub enum Response {
     Nothing,
     Malformed(u64),
     Asked(u64),
+    Page,
     Says(Step),
 }
 
@@ -273,6 +274,15 @@ fn take_asked(t: Conversation) -> Responded
     }
 }
 
+fn take_page(t: Conversation) -> Responded
+    ensures { λ r. ⌜ ((u : defined.Conversation) → Tracks t u → Responds r (answerTo u page)) ⌝ }
+{
+    Responded {
+        conversation: t,
+        response: Response::Page,
+    }
+}
+
 // What a line is answered by, in its number and place.
 fn respond(t: Conversation, l: Line) -> Responded
     ensures { λ r. ⌜ ((u : defined.Conversation) → Tracks t u → Responds r (answerTo u (formIn l))) ⌝ }
@@ -291,6 +301,7 @@ fn respond(t: Conversation, l: Line) -> Responded
         ReadForm::TakeOut(place) => take_take_out(t, place),
         ReadForm::Exchange(place, range, sigma) => take_exchange(t, place, range, sigma),
         ReadForm::Asked => take_asked(t),
+        ReadForm::Page => take_page(t),
     }
 }
 
@@ -339,6 +350,15 @@ fn put_count(out: &mut [u8], n: u64) -> usize
     report_text::put_byte(out, at, 10)
 }
 
+// How many lines the page of the session has, and these.
+fn put_page(out: &mut [u8], session: Session) -> usize
+    ensures { λ r. ⌜ Writes (now (out .entry)) 0 (now (out .exit)) r (pageAnswer (reportIn (state session))) ⌝ }
+{
+    let at = report_text::put_page_count(out, 0, page::lines(session) as u64);
+    let at = report_text::put_byte(out, at, 10);
+    page::put_page(out, at, session)
+}
+
 fn put_malformed(out: &mut [u8], n: u64) -> usize
     ensures { λ r. ⌜ Writes (now (out .entry)) 0 (now (out .exit)) r (line (malformedText n)) ⌝ }
 {
@@ -353,6 +373,7 @@ fn put_response(out: &mut [u8], session: Session, response: Response) -> usize
         Response::Nothing => report_text::put_bytes(out, 0, b""),
         Response::Malformed(n) => put_malformed(out, n),
         Response::Asked(n) => put_count(out, n),
+        Response::Page => put_page(out, session),
         Response::Says(step) => put_step(out, session, step),
     }
 }

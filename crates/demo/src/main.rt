@@ -3,7 +3,6 @@
 mod lot;
 mod meaning;
 mod protocol;
-mod rounding;
 mod say;
 
 use definition::Distances;
@@ -18,14 +17,16 @@ fn say_heading() {
     say::text(
         b"Launch speed and ballistic coefficient of a slug, fitted to the drops of twelve shots.\n",
     );
-    say::tenths(
-        b"Nobody fired them: they are the drops of a small flight solver at ",
-        lot::TRUE_SPEED,
-    );
-    say::ten_thousandths(b" fps and ", lot::TRUE_COEFFICIENT);
     say::text(
-        b",\neach with a made-up deviation below its sigma. The solver is no part of the estimator.\n\n",
+        b"Nobody fired them: they are the drops of a small flight solver, each with a made-up deviation below\n",
     );
+    say::text(
+        b"its sigma. The solver is no part of the estimator. The point that they were made at:\n",
+    );
+    say::text(b"                    ");
+    say::column(lot::TRUE_SPEED);
+    say::column(lot::TRUE_COEFFICIENT);
+    say::text(b"\n\n");
 }
 
 // So many questions are shown with their replies.

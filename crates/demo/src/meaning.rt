@@ -5,7 +5,6 @@ use definition::Number;
 use definition::Step;
 use definition::TruingApproximationFailureCodeV1;
 use definition::TruingApproximationV1;
-use definition::TruingGaussianApproximationV1;
 use definition::TruingMapConvergenceCriterionV1;
 use definition::WeightedTruingObservationResultV1;
 use editing::Answer;
@@ -15,28 +14,18 @@ use report::BandAt;
 use report::Baseline;
 use report::ResultAt;
 use report::Shown;
-use report::TruingBaselineV1;
 use report::UncertaintyTruingReportV1;
 use summary::Criterion;
 use summary::TruingUncertaintyDiagnosticsV1;
 use warnings::Warnings;
 
-// ---- launch speed and coefficient
+// ---- the page
 
-fn say_point(r: UncertaintyTruingReportV1) {
-    say::tenths(b"Fitted launch speed ", r.map_muzzle_velocity_fps);
-    say::ten_thousandths(b" fps, ballistic coefficient ", r.map_ballistic_coefficient);
-    say::text(b".\n");
-}
-
-fn say_intervals(g: TruingGaussianApproximationV1) {
-    let speed = g.muzzle_velocity_interval_95;
-    let coefficient = g.ballistic_coefficient_interval_95;
-    say::tenths(b"With 95 % probability the speed lies from ", speed.lower);
-    say::tenths(b" to ", speed.upper);
-    say::ten_thousandths(b" fps,\nand the coefficient from ", coefficient.lower);
-    say::ten_thousandths(b" to ", coefficient.upper);
-    say::text(b".\n");
+// A page has fewer bytes than there are here.
+fn say_page(s: Session) {
+    let mut out = [0u8; 16384];
+    let end = page::put_page(&mut out, 0, s);
+    say::first(&out, end);
 }
 
 fn say_failure(code: TruingApproximationFailureCodeV1) {
@@ -58,7 +47,7 @@ fn say_failure(code: TruingApproximationFailureCodeV1) {
 
 fn say_approximation(a: TruingApproximationV1) {
     match a {
-        TruingApproximationV1::Available(g, _) => say_intervals(g),
+        TruingApproximationV1::Available(_, _) => say::text(b""),
         TruingApproximationV1::Unavailable(code) => {
             say::text(b"There are no 95 % intervals: ");
             say_failure(code);
@@ -88,49 +77,52 @@ fn say_convergence(c: Criterion) {
 
 fn say_reduced(reduced: Number) {
     match reduced {
-        Number::Absent => say::text(b" shots; too few to judge it by.\n"),
+        Number::Absent => say::text(
+            b"There are too few shots to judge the fit by its chi-square.\n",
+        ),
         Number::Given(x) => {
-            say::hundredths(b" shots, ", x);
-            say::text(b" per degree of freedom; the sigmas lead one to expect about 1.\n");
+            say::text(b"Chi-square per degree of freedom, about 1 where the sigmas are right:\n");
+            say::text(b"                    ");
+            say::column(x);
+            say::text(b"\n");
         }
     }
 }
 
-fn say_fit(d: TruingUncertaintyDiagnosticsV1, shots: usize) {
+fn say_fit(d: TruingUncertaintyDiagnosticsV1) {
     let criterion = d.map_convergence_criterion;
     let reduced = d.reduced_chi_square;
     say_convergence(criterion);
-    say::hundredths(b"Chi-square ", d.chi_square);
-    say::count(b" over ", shots as u64);
     say_reduced(reduced);
 }
 
 // The entered point, for comparison.
-fn say_entered(b: TruingBaselineV1) {
-    say::tenths(b"At the entered ", b.muzzle_velocity_fps);
-    say::ten_thousandths(b" fps and ", b.ballistic_coefficient);
-    say::hundredths(b" chi-square is ", b.chi_square);
-    say::text(b".\n");
-}
-
 fn say_baseline(b: Baseline) {
     match b {
         Baseline::Absent => say::text(
             b"The solver has no flight at the entered point to compare with.\n",
         ),
-        Baseline::Given(g) => say_entered(g),
+        Baseline::Given(g) => {
+            say::text(b"The entered speed and coefficient, and chi-square there:\n");
+            say::row(
+                b"entered             ",
+                g.muzzle_velocity_fps,
+                g.ballistic_coefficient,
+                g.chi_square,
+            );
+        }
     }
 }
 
 // ---- the shots
 
 fn say_result(o: WeightedTruingObservationResultV1) {
-    say::column_of_tenths(b"  ", o.range_yd);
-    say::column_of_hundredths(b"   ", o.observed_drop);
-    say::column_of_hundredths(b"", o.sigma);
-    say::column_of_hundredths(b"     ", o.predicted_drop);
-    say::column_of_hundredths(b"         ", o.standardized_residual);
-    say::text(b"\n");
+    say::row(
+        b"shot                ",
+        o.range_yd,
+        o.sigma,
+        o.standardized_residual,
+    );
 }
 
 fn say_results(s: Session, n: usize) {
@@ -147,26 +139,15 @@ fn say_results(s: Session, n: usize) {
 
 // ---- the requested distances
 
-fn say_range(lower: f64, upper: f64) {
-    say::column_of_hundredths(b"   ", lower);
-    say::column_of_hundredths(b" to", upper);
-}
-
-fn say_interval(i: Interval) {
-    match i {
-        Interval::Absent => say::text(b"              no range"),
-        Interval::Present(g) => say_range(g.lower, g.upper),
-    }
-}
-
+// The interval of one more shot, where there is one.
 fn say_band(b: TruingPredictiveBandV1) {
-    let latent = b.latent_interval_95;
     let future = b.future_observation_interval_95;
-    say::column_of_tenths(b"  ", b.range_yd);
-    say::column_of_hundredths(b"     ", b.predicted_drop);
-    say_interval(latent);
-    say_interval(future);
-    say::text(b"\n");
+    match future {
+        Interval::Absent => say::text(b""),
+        Interval::Present(g) => {
+            say::row(b"distance            ", b.range_yd, g.lower, g.upper);
+        }
+    }
 }
 
 fn say_bands(s: Session, n: usize) {
@@ -245,24 +226,29 @@ fn say_warnings(w: Warnings) {
 
 // ---- the answer
 
+// What the page says, and then in plain words what it does not.
 fn say_report(s: Session, r: UncertaintyTruingReportV1) {
     let approximation = r.approximation;
     let diagnostics = r.diagnostics;
     let baseline = r.baseline;
     let found = r.warnings;
-    say_point(r);
+    say::text(
+        b"The page for the counter, in feet per second, yards and inches. After a fitted value, and after\n",
+    );
+    say::text(
+        b"the drop at a requested distance, stand the ends of its 95 % interval; a shot has its distance,\n",
+    );
+    say::text(b"the measured drop and that of the fit.\n\n");
+    say_page(s);
+    say::text(b"\n");
     say_approximation(approximation);
-    say_fit(diagnostics, r.observations);
+    say_fit(diagnostics);
     say_baseline(baseline);
     say::text(
-        b"\nThe shots, with drops in inches. The residual is the fit's drop less the measured one.\n",
+        b"\nEach shot's distance and sigma, and its residual (the fit's drop less the measured one) over it:\n",
     );
-    say::text(b"    yards   measured   sigma   by the fit   residual/sigma\n");
     say_results(s, r.observations);
-    say::text(
-        b"\nThe requested distances, with the 95 % ranges of the true drop and of one more shot's, in inches.\n",
-    );
-    say::text(b"    yards   by the fit             true drop         one more shot\n");
+    say::text(b"\nThe 95 % interval of one more shot's drop, where its sigma was given:\n");
     say_bands(s, r.predictive_bands);
     say::text(b"\n");
     say_warnings(found);

@@ -92,14 +92,10 @@ pub fn say_reply(drops: &[f64], missing: &[bool]) {
     say::text(b")\n");
 }
 
-fn say_first(out: &[u8], end: usize) {
-    say::text(slices::first_bytes(out, end));
-}
-
 // A question, the report or a refusal. The report has fewer bytes than there are here.
 pub fn say_answer(a: Answer) {
     let mut out = [0u8; 32768];
     let at = answer_text::put_answer(&mut out, 0, a);
     let end = report_text::put_byte(&mut out, at, 10);
-    say_first(&out, end);
+    say::first(&out, end);
 }

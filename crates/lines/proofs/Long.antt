@@ -135,7 +135,8 @@ later-bad w ws e =
     (by-first (is "exchange" w)
     (bad-3 _ ws (λ a b c t. rw (long-no-count a t)) (λ a b c t. rw (long-double b t) (if-bad (countOf a) _ (λ x. refl)))
     (λ a b c t. rw (long-sigma c t) (if-bad (countOf a) _ (λ x. if-bad (doubleOf b) _ (λ y. refl)))) e)
-    (by-first (is "asked" w) (none-0 _ ws e) refl))))))))))
+    (by-first (is "asked" w) (none-0 _ ws e)
+    (by-first (is "page" w) (none-0 _ ws e) refl)))))))))))
 
 -- words among which one is long are malformed
 pub words-bad : (ws : List (List ℕ)) → anyLong ws ≡ true → formOfWords ws ≡ malformed
@@ -155,4 +156,5 @@ words-bad (w ∷ ws) e = either (long w) (anyLong ws) first-bad (later-bad w ws)
         long-other w t "take-out" (omega arith),
         long-other w t "exchange" (omega arith),
         long-other w t "asked" (omega arith),
+        long-other w t "page" (omega arith),
       )

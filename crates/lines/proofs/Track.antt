@@ -27,6 +27,7 @@ use Rattle.lines.specs.Lines.{
   drops,
   refused,
   asked,
+  page,
   ifRead,
   sigmaRead,
   entryFrom,
@@ -393,7 +394,8 @@ module _ (f : Fields) (w : List ℕ) (ws : List (List ℕ)) (t : Tells f w ws) w
       (pick (word-of "put-in" refl w) put-in-tells
       (pick (word-of "take-out" refl w) take-out-tells
       (pick (word-of "exchange" refl w) exchange-tells
-      (pick (word-of "asked" refl w) (tells-0 asked refl) (still refl refl)))))))))))
+      (pick (word-of "asked" refl w) (tells-0 asked refl)
+      (pick (word-of "page" refl w) (tells-0 page refl) (still refl refl))))))))))))
 
 tracks-form : (l : Line) (w : List ℕ) (ws : List (List ℕ)) → Tracks l w ws → formIn l ≡ short (formOfWords (w ∷ ws))
 unfolding formIn

@@ -24,6 +24,7 @@ pub data Form : Type 0 where
   takeOut : ℕ → Form
   exchange : ℕ → Float → Option Float → Form
   asked : Form
+  page : Form
 
 -- ---- fields
 
@@ -142,7 +143,8 @@ formOfWords (w ∷ ws) =
     (cond (is "put-in" w) (with3 (λ a b c. putInOf (countOf a) (doubleOf b) (sigmaRead c)) ws)
     (cond (is "take-out" w) (with1 (λ a. takeOutOf (countOf a)) ws)
     (cond (is "exchange" w) (with3 (λ a b c. exchangeOf (countOf a) (doubleOf b) (sigmaRead c)) ws)
-    (cond (is "asked" w) (with0 asked ws) malformed))))))))))
+    (cond (is "asked" w) (with0 asked ws)
+    (cond (is "page" w) (with0 page ws) malformed)))))))))))
 
 -- ---- lines
 

@@ -28,7 +28,7 @@ use Rattle.lines.specs.declared.Reply.{Reply}
 use Rattle.lines.specs.declared.Line.{Line}
 use Rattle.numerals.specs.Numbers.{doubleOf, countOf, saysDouble, saysCount}
 use Rattle.lines.specs.Lines.{Form, malformed, entered, shot, priorSpeed, priorCoefficient, distance, openPlain, drops, refused, putIn, takeOut, exchange}
-use Rattle.lines.specs.Lines.{asked, sigmaFrom, entryFrom, enteredOf, shotOf, priorOf, distanceOf, openOf, putInOf, exchangeOf, takeOutOf, afterOpen}
+use Rattle.lines.specs.Lines.{asked, page, sigmaFrom, entryFrom, enteredOf, shotOf, priorOf, distanceOf, openOf, putInOf, exchangeOf, takeOutOf, afterOpen}
 use Rattle.lines.specs.Lines.{beforeClose, wordsOf, formOf}
 
 -- ---- what the code's values say
@@ -63,6 +63,7 @@ formSays es (readForm.PutIn k x s) = putIn k x (numberOf s)
 formSays es (readForm.TakeOut k) = takeOut k
 formSays es (readForm.Exchange k x s) = exchange k x (numberOf s)
 formSays es readForm.Asked = asked
+formSays es readForm.Page = page
 
 -- ---- a word read in each way
 
@@ -195,7 +196,8 @@ sessionIn es sound k f =
     (cond (eqb k (place "put-in")) (putInIn f)
     (cond (eqb k (place "take-out")) (takeOutIn f)
     (cond (eqb k (place "exchange")) (exchangeIn f)
-    (cond (eqb k (place "asked")) (aloneIn f asked) malformed)))))
+    (cond (eqb k (place "asked")) (aloneIn f asked)
+    (cond (eqb k (place "page")) (aloneIn f page) malformed))))))
 
 -- a form of a request or of a session
 abbrev pub namedIn : List Entry → Bool → ℕ → Fields → Form
@@ -225,6 +227,7 @@ short (putIn k x s) = putIn k x s
 short (takeOut k) = takeOut k
 short (exchange k x s) = exchange k x s
 short asked = asked
+short page = page
 
 -- ---- words with their parentheses
 

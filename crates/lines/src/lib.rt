@@ -13,7 +13,7 @@ ghost use Rattle.words.specs.Words.{place};
 ghost use Rattle.numerals.specs.Numbers.{digitOf, glyphOf, numberFrom, digitsOf, doubleOf, doubleText, saysDouble, within64, countOf, placesOf, countText};
 ghost use Rattle.numerals.specs.Numbers.{in20, saysCount};
 ghost use Rattle.definition.specs.Run.{Entry};
-ghost use Rattle.lines.specs.Lines.{entryFrom, sigmaFrom, refused, asked, priorBy, openOf};
+ghost use Rattle.lines.specs.Lines.{entryFrom, sigmaFrom, refused, asked, page, priorBy, openOf};
 ghost use Rattle.lines.specs.Reading.{wordReading, blank, startOf, spoiledOf, withFieldOf, pushOf, withEntryOf, saysEntry, feedOf, saysSigma, entriesIn};
 ghost use Rattle.lines.specs.Reading.{formSays, enteredIn, shotIn, priorIn, distanceIn, openIn, putInIn, exchangeIn, takeOutIn, aloneIn, dropsIn};
 ghost use Rattle.lines.specs.Reading.{sessionIn, namedIn, formIn, endOf, takeOf};
@@ -44,6 +44,7 @@ pub enum ReadForm {
     TakeOut(u64),
     Exchange(u64, f64, Number),
     Asked,
+    Page,
 }
 
 // A word, read in each way that a field can be: `word` is its place in the table of words.
@@ -456,6 +457,15 @@ fn asked(f: Fields) -> ReadForm
     ReadForm::Asked
 }
 
+fn page(f: Fields) -> ReadForm
+    ensures { λ r. ⌜ ((es : List Entry) → formSays es r ≡ aloneIn f page) ⌝ }
+{
+    if f.n != 1 {
+        return ReadForm::Malformed;
+    }
+    ReadForm::Page
+}
+
 fn drops_form(sound: bool) -> ReadForm
     ensures { λ r. ⌜ ((es : List Entry) → formSays es r ≡ dropsIn es sound) ⌝ }
 {
@@ -486,6 +496,9 @@ fn session_form(k: usize, f: Fields, sound: bool) -> ReadForm
     }
     if k == words::ASKED {
         return asked(f);
+    }
+    if k == words::PAGE {
+        return page(f);
     }
     ReadForm::Malformed
 }

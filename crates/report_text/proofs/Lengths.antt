@@ -62,6 +62,7 @@ use Rattle.report_text.specs.Texts.{
   questionText,
   declinedText,
   askedText,
+  pageCountText,
   malformedText,
 }
 use Rattle.definition.specs.declared.Distances.{Distances}
@@ -331,6 +332,10 @@ question-length list mv bc = short _ (omega (arith, list-length list, double-len
 pub declined-length : (n position : ℕ) → length (declinedText n position) ≤ 53
 unfolding declinedText
 declined-length n position = short _ (omega (arith, count-length n, count-length position))
+
+pub page-count-length : (n : ℕ) → length (pageCountText n) ≤ 28
+unfolding pageCountText
+page-count-length n = short _ (omega (arith, count-length n))
 
 pub asked-length : (n : ℕ) → length (askedText n) ≤ 29
 unfolding askedText

@@ -175,6 +175,10 @@ declinedText n position = bracketed (bytes "declined" ∷ countText n ∷ countT
 unfoldable pub askedText : ℕ → Text
 askedText n = bracketed (bytes "asked" ∷ countText n ∷ [])
 
+-- how many lines of a page follow
+unfoldable pub pageCountText : ℕ → Text
+pageCountText n = bracketed (bytes "page" ∷ countText n ∷ [])
+
 -- the number of the line
 unfoldable pub malformedText : ℕ → Text
 malformedText n = bracketed (bytes "malformed" ∷ countText n ∷ [])

@@ -33,7 +33,7 @@ ghost use Rattle.numerals.specs.Numbers.{doubleText, countText};
 ghost use Rattle.report_text.specs.Writing.{Writes};
 ghost use Rattle.report_text.specs.Texts.{bracketed, orNone, truthText, numberText, criterionName, failureName, gaussianText, intervalText, normalText};
 ghost use Rattle.report_text.specs.Texts.{priorText, priorsText, resultText, diagnosticsText, covarianceText, availableText, approximationText, bandText};
-ghost use Rattle.report_text.specs.Texts.{warningsText, listName, questionText, declinedText, askedText, malformedText};
+ghost use Rattle.report_text.specs.Texts.{warningsText, listName, questionText, declinedText, askedText, pageCountText, malformedText};
 ghost use Rattle.report_text.specs.Pieces.{before, headText, givenHead, baselineHead, baselineEnd, middleText, endText, sumsText, pollsText, markText};
 ghost use Rattle.report_text.specs.Pieces.{marksOf, marksText};
 
@@ -79,7 +79,7 @@ fn put_double(out: &mut [u8], at: usize, x: f64) -> usize
     put_bytes(out, at, &digits)
 }
 
-fn put_count(out: &mut [u8], at: usize, n: u64) -> usize
+pub fn put_count(out: &mut [u8], at: usize, n: u64) -> usize
     ensures { λ r. ⌜ Writes (now (out .entry)) at (now (out .exit)) r (countText n) ⌝ }
 {
     let text = numerals::write_count(n);
@@ -567,6 +567,14 @@ pub fn put_asked(out: &mut [u8], at: usize, n: u64) -> usize
     ensures { λ r. ⌜ Writes (now (out .entry)) at (now (out .exit)) r (askedText n) ⌝ }
 {
     let at = put_start(out, at, words::ASKED);
+    let at = put_count(out, at, n);
+    put_byte(out, at, b')')
+}
+
+pub fn put_page_count(out: &mut [u8], at: usize, n: u64) -> usize
+    ensures { λ r. ⌜ Writes (now (out .entry)) at (now (out .exit)) r (pageCountText n) ⌝ }
+{
+    let at = put_start(out, at, words::PAGE);
     let at = put_count(out, at, n);
     put_byte(out, at, b')')
 }

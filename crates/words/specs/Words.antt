@@ -49,7 +49,7 @@ names =
     "Available" ∷ "Unavailable" ∷
     "report" ∷
     "question" ∷ "shots" ∷ "distances" ∷ "new" ∷
-    "declined" ∷ "malformed" ∷ []
+    "declined" ∷ "malformed" ∷ "page" ∷ []
 
 abbrev pub words : List (List ℕ)
 words = map bytes names

@@ -6,7 +6,7 @@ ghost use Rattle.words.specs.Words.{same, words, wordAt, placeOf};
 ghost use Rattle.words.specs.Rows.{padded, tableOf, low};
 
 // The number of words, which is the place of what is none of them.
-pub const COUNT: usize = 42;
+pub const COUNT: usize = 43;
 
 // The places of the words: the numbers of their rows.
 
@@ -94,6 +94,8 @@ pub const DECLINED: usize = 40;
 
 pub const MALFORMED: usize = 41;
 
+pub const PAGE: usize = 42;
+
 // A word's bytes: the first `len`, and blanks behind them.
 pub struct WordText {
     pub bytes: [u8; 32],
@@ -102,7 +104,7 @@ pub struct WordText {
 
 // A row has 32 bytes: a word, and blanks behind it. An array that a function names is built where it is named, so it is made once for each search and then
 // lent.
-fn table() -> [u8; 1344]
+fn table() -> [u8; 1376]
     ensures { λ r. ⌜ r ≡ tableOf words ⌝ }
 {
     *b"\
@@ -148,11 +150,12 @@ fn table() -> [u8; 1344]
     new                             \
     declined                        \
     malformed                       \
+    page                            \
 "
 }
 
 // The i-th byte of the k-th row; past the table there are blanks.
-fn byte(t: &[u8; 1344], k: usize, i: usize) -> u8
+fn byte(t: &[u8; 1376], k: usize, i: usize) -> u8
     requires { ⌜ (i < 32) × (now t ≡ tableOf words) ⌝ }
     ensures { λ r. ⌜ r ≡ getD (padded (wordAt k)) i 0 ⌝ }
 {
@@ -163,7 +166,7 @@ fn byte(t: &[u8; 1344], k: usize, i: usize) -> u8
 }
 
 // Whether s is the k-th word.
-fn is_word<'a>(t: &'a [u8; 1344], s: &'a [u8], k: usize) -> bool
+fn is_word<'a>(t: &'a [u8; 1376], s: &'a [u8], k: usize) -> bool
     requires { ⌜ now t ≡ tableOf words ⌝ }
     ensures { λ r. ⌜ r ≡ same (now (s .entry)) (wordAt k) ⌝ }
 {

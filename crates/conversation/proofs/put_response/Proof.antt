@@ -26,6 +26,12 @@ enum-known-response-2 c = search needs
 put-count-requires : tie.Need-put-count-requires
 put-count-requires c κs = search needs
 
+enum-told-2 : tie.Need-enum-told-2
+enum-told-2 c = search needs
+
+put-page-requires : tie.Need-put-page-requires
+put-page-requires c κs = search needs
+
 enum-known-response-3 : tie.Need-enum-known-response-3
 enum-known-response-3 c = search needs
 
@@ -64,6 +70,15 @@ same-length-4 c = search needs
 
 returns-4 : tie.Need-returns-4
 returns-4 c =
+    as-text (c .before .before .put-page .ensures)
+    (sym (ap (responseText (c .before .before .before .before .before .before .before .args .session))
+    (c .before .before .before .before .enum-told2 .given .1)))
+
+same-length-5 : tie.Need-same-length-5
+same-length-5 c = search needs
+
+returns-5 : tie.Need-returns-5
+returns-5 c =
     as-text (c .before .before .put-step .ensures)
     (sym (ap (responseText (c .before .before .before .before .before .before .before .before .args .session))
     (c .before .before .before .before .before .response3 .given .1)))
@@ -79,6 +94,8 @@ put-response-spec =
     put-malformed-requires
     enum-known-response-2
     put-count-requires
+    enum-told-2
+    put-page-requires
     enum-known-response-3
     put-step-requires
     same-length
@@ -88,4 +105,6 @@ put-response-spec =
     same-length-3
     returns-3
     same-length-4
-    returns-4)
+    returns-4
+    same-length-5
+    returns-5)

@@ -85,6 +85,12 @@ enum-told-5 c = search needs
 take-asked-requires : tie.Need-take-asked-requires
 take-asked-requires c κs = search needs
 
+enum-told-6 : tie.Need-enum-told-6
+enum-told-6 c = search needs
+
+take-page-requires : tie.Need-take-page-requires
+take-page-requires c κs = search needs
+
 returns : tie.Need-returns
 unfolding answerTo
 returns c =
@@ -151,6 +157,11 @@ returns-13 c =
     λ u k. by-form (c .before .before .before .before .args .l) _ _ (c .before .before .before .form .ensures) (c .before .enum-told5 .given .1) u _
     (c .take-asked .ensures u k)
 
+returns-14 : tie.Need-returns-14
+returns-14 c =
+    λ u k. by-form (c .before .before .before .before .args .l) _ _ (c .before .before .before .form .ensures) (c .before .enum-told6 .given .1) u _
+    (c .take-page .ensures u k)
+
 pub respond-spec : {M : Type 1} → statement M
 respond-spec =
     tie.close
@@ -182,6 +193,8 @@ respond-spec =
     take-exchange-requires
     enum-told-5
     take-asked-requires
+    enum-told-6
+    take-page-requires
     returns
     returns-2
     returns-3
@@ -194,4 +207,5 @@ respond-spec =
     returns-10
     returns-11
     returns-12
-    returns-13)
+    returns-13
+    returns-14)

@@ -40,16 +40,23 @@ asked-requires c κs = search needs
 returns-6 : tie.Need-returns-6
 returns-6 c = λ es. rw (c .before .if6 .taken) (c .asked .ensures es)
 
+page-requires : tie.Need-page-requires
+page-requires c κs = search needs
+
 returns-7 : tie.Need-returns-7
-returns-7 c =
+returns-7 c = λ es. rw (c .before .if7 .taken) (c .page .ensures es)
+
+returns-8 : tie.Need-returns-8
+returns-8 c =
     let c1 = c .before .before .before in
     λ es. rw (
-      ne-eqb _ _ (c1 .before .before .if1 .left),
-      ne-eqb _ _ (c1 .before .if2 .left),
-      ne-eqb _ _ (c1 .if3 .left),
-      ne-eqb _ _ (c .before .before .if4 .left),
-      ne-eqb _ _ (c .before .if5 .left),
-      ne-eqb _ _ (c .if6 .left),
+      ne-eqb _ _ (c1 .before .before .before .if1 .left),
+      ne-eqb _ _ (c1 .before .before .if2 .left),
+      ne-eqb _ _ (c1 .before .if3 .left),
+      ne-eqb _ _ (c1 .if4 .left),
+      ne-eqb _ _ (c .before .before .if5 .left),
+      ne-eqb _ _ (c .before .if6 .left),
+      ne-eqb _ _ (c .if7 .left),
     )
 
 pub session-form-spec : {M : Type 1} → statement M
@@ -68,4 +75,6 @@ session-form-spec =
     returns-5
     asked-requires
     returns-6
-    returns-7)
+    page-requires
+    returns-7
+    returns-8)

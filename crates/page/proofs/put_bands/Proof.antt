@@ -1,0 +1,108 @@
+-- `put_bands`: line by line. The invariant: the lines of the first i are written.
+use borrow.Author.Needs.{needs}
+use Prim.Native.Nat.{ℕ, _-_, _≤_}
+use mathlib.Core.Path.{_≡_, sym, ap, _∙_}
+use mathlib.Core.List.{map}
+use native.Mathlib.Omega.{arith}
+use lib.ListN.{take}
+use Rattle.report.specs.Places.{bandAtSays}
+use Rattle.report.specs.Reading.{reportIn}
+use Rattle.editing.specs.Meaning.{state}
+use Rattle.report_text.specs.Writing.{Writes}
+use Rattle.report_text.proofs.Writing.{then, as-text, same-room, within, nothing}
+use Rattle.answer_text.specs.Answers.{bandsIn}
+use Rattle.answer_text.proofs.Laws.{place-list, all-taken}
+use Rattle.page_text.specs.Page.{bandLine, joinedLines}
+use Rattle.page.proofs.Laws.{next-line}
+use Rattle.page.proofs.put_bands.Statement.{statement}
+use Rattle.page.proofs.put_bands.Tie as tie
+
+abbrev Inv-loop : tie.InvT-loop
+Inv-loop out₀ at s n next₀ i₀ out next i = (i ≤ n) × Writes out₀ next₀ out next (joinedLines (map bandLine (take i (bandsIn s))))
+
+abbrev μ-loop : tie.MeasureT-loop
+μ-loop out₀ at s n next₀ i₀ out next i = n - i
+
+slice-aggregate-put-bytes : tie.Need-slice-aggregate-put-bytes Inv-loop μ-loop
+slice-aggregate-put-bytes c = search needs
+
+put-bytes-requires : tie.Need-put-bytes-requires Inv-loop μ-loop
+put-bytes-requires c κs = search needs
+
+loop-holds : tie.Need-loop-holds Inv-loop μ-loop
+loop-holds c =
+    let w = c .before .before .put-bytes .ensures in
+    (omega arith, nothing (omega (arith, within w, same-room w)))
+
+predictive-band-requires : tie.Need-predictive-band-requires Inv-loop μ-loop
+predictive-band-requires c κs = search needs
+
+enum-known-found : tie.Need-enum-known-found Inv-loop μ-loop
+enum-known-found c = search needs
+
+enum-told : tie.Need-enum-told Inv-loop μ-loop
+enum-told c = search needs
+
+same-length : tie.Need-same-length Inv-loop μ-loop
+same-length c = same-room (then (c .before .before .before .before .before .before .before .put-bytes .ensures) (c .before .before .before .before .loop .inv .1))
+
+returns : tie.Need-returns Inv-loop μ-loop
+returns c =
+    let a = c .before .before .before .before .before .before .before .before .before .before .before .args in
+    let l = c .before .before .before .before .loop in
+    let s = a .s in
+    let e =
+    sym (place-list (λ p. p .bands) (l .i) (reportIn (state s))) ∙ sym (c .before .before .predictive-band .ensures .is) ∙ ap bandAtSays (c .enum-told .given .1) in
+    as-text (then (c .before .before .before .before .before .before .before .put-bytes .ensures) (l .inv .1))
+    (ap (λ m. joinedLines (map bandLine m)) (all-taken (bandsIn s) (l .i) (a .n) e (omega arith)))
+
+put-band-requires : tie.Need-put-band-requires Inv-loop μ-loop
+put-band-requires c κs = search needs
+
+add-i : tie.Need-add-i Inv-loop μ-loop
+add-i c = omega arith
+
+loop-less : tie.Need-loop-less Inv-loop μ-loop
+loop-less c = omega arith
+
+loop-again : tie.Need-loop-again Inv-loop μ-loop
+loop-again c =
+    let a = c .before .before .before .before .before .before .before .before .before .before .before .before .before .before .before .before .args in
+    let l = c .before .before .before .before .before .before .before .before .before .loop in
+    let s = a .s in
+    let e =
+    sym (place-list (λ p. p .bands) (l .i) (reportIn (state s))) ∙ sym (c .before .before .before .before .before .before .before .predictive-band .ensures .is)
+    ∙ ap bandAtSays (c .before .before .before .before .before .found .given .1) in
+    (omega arith, as-text (then (l .inv .1) (c .before .before .put-band .ensures)) (next-line bandLine (bandsIn s) (l .i) _ e))
+
+same-length-2 : tie.Need-same-length-2 Inv-loop μ-loop
+same-length-2 c = same-room (then (c .before .before .before .before .put-bytes .ensures) (c .before .loop .inv .1))
+
+returns-2 : tie.Need-returns-2 Inv-loop μ-loop
+returns-2 c =
+    let a = c .before .before .before .before .before .before .before .before .args in
+    let l = c .before .loop in
+    let s = a .s in
+    let k : l .i ≡ a .n = omega arith in
+    as-text (then (c .before .before .before .before .put-bytes .ensures) (l .inv .1)) (ap (λ (n : ℕ). joinedLines (map bandLine (take n (bandsIn s)))) k)
+
+pub put-bands-spec : {M : Type 1} → statement M
+put-bands-spec =
+    tie.close
+    (tie.spec
+    Inv-loop
+    μ-loop
+    slice-aggregate-put-bytes
+    put-bytes-requires
+    loop-holds
+    predictive-band-requires
+    enum-known-found
+    enum-told
+    same-length
+    returns
+    put-band-requires
+    add-i
+    loop-less
+    loop-again
+    same-length-2
+    returns-2)

@@ -1,0 +1,40 @@
+-- `page_text::put_phrase` meets its contract. Assumes nothing.
+use borrow.Author.Needs.{needs}
+use native.Mathlib.Omega.{arith}
+use Rattle.page_text.proofs.Laws.{row-below, rows-length, by-row}
+use Rattle.report_text.proofs.Writing.{then, as-text, same-room}
+use Rattle.page_text.proofs.put_phrase.Statement.{statement}
+use Rattle.page_text.proofs.put_phrase.Tie as tie
+
+phrases-requires : tie.Need-phrases-requires
+phrases-requires c κs = search needs
+
+row-requires : tie.Need-row-requires
+row-requires c κs = search needs
+
+mul-from : tie.Need-mul-from
+mul-from c = omega (arith, c .row .ensures, row-below (c .before .before .before .args .code))
+
+add-to : tie.Need-add-to
+add-to c = omega (arith, c .row .ensures, row-below (c .before .before .before .args .code))
+
+sub-put-bytes : tie.Need-sub-put-bytes
+sub-put-bytes c = search needs
+
+part-put-bytes-start : tie.Need-part-put-bytes-start
+part-put-bytes-start c = search needs
+
+part-put-bytes-end : tie.Need-part-put-bytes-end
+part-put-bytes-end c = omega (arith, c .before .before .row .ensures, row-below (c .before .before .before .before .before .args .code), rows-length (c .before .before .before .phrases .ensures))
+
+put-bytes-requires : tie.Need-put-bytes-requires
+put-bytes-requires c κs = search needs
+
+same-length : tie.Need-same-length
+same-length c = same-room (c .before .before .put-bytes .ensures)
+
+returns : tie.Need-returns
+returns c = as-text (c .before .before .put-bytes .ensures) (by-row (c .before .before .before .before .before .before .before .before .before .args .code) (c .before .before .before .before .before .before .row .ensures) (c .before .before .before .before .before .before .before .phrases .ensures))
+
+pub put-phrase-spec : {M : Type 1} → statement M
+put-phrase-spec = tie.close (tie.spec phrases-requires row-requires mul-from add-to sub-put-bytes part-put-bytes-start part-put-bytes-end put-bytes-requires same-length returns)
