@@ -50,7 +50,9 @@ pub by-row : (code : TruingUncertaintyWarningCodeV1) {k : ℕ} {rows : Text} →
     → take (k * 24 + 24 - k * 24) (drop (k * 24) rows) ≡ phraseText code
 by-row code {k} {rows} e f =
     let n : k * 24 + 24 - k * 24 ≡ 24 = omega arith in
-    ap (λ (i : ℕ). take i (drop (k * 24) rows)) n ∙ ap (λ (i : ℕ). take 24 (drop (i * 24) rows)) e ∙ ap (λ (t : Text). take 24 (drop (rowOf code * 24) t)) f ∙ row-at code
+    ap (λ (i : ℕ). take i (drop (k * 24) rows)) n
+    ∙ ap (λ (i : ℕ). take 24 (drop (i * 24) rows)) e
+    ∙ ap (λ (t : Text). take 24 (drop (rowOf code * 24) t)) f ∙ row-at code
 
 pub rows-length : {rows : Text} → rows ≡ phraseRows → length rows ≡ 240
 unfolding phraseRows phraseText

@@ -163,7 +163,15 @@ lines-length : (l : List Text) → every Line l → length (joinedLines l) ≡ 6
 lines-length [] h = refl
 lines-length (t ∷ l) h =
     let line = h .0 in
-    omega (arith, length-append t (joinedLines l), lines-length l (h .1), ap length (line .is), length-append (line .columns) (10 ∷ []), line .wide, mul-suc 65 (length l))
+    omega (
+      arith,
+      length-append t (joinedLines l),
+      lines-length l (h .1),
+      ap length (line .is),
+      length-append (line .columns) (10 ∷ []),
+      line .wide,
+      mul-suc 65 (length l),
+    )
 
 pub page-length : (p : Report) → length (joinedLines (pageLines p)) ≡ 65 * length (pageLines p)
 page-length p = lines-length (pageLines p) (sixty-four p)

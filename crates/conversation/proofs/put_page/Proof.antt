@@ -27,7 +27,16 @@ returns : tie.Need-returns
 returns c =
     let c1 = c .before .before .before .before .before .before in
     let c2 = c1 .before .before .before .before in
-    as-text (then (c2 .put-page-count .ensures) (then (c1 .put-byte .ensures) (c .before .before .put-page .ensures))) (page-head _ _ _ (c2 .before .lines .ensures))
+    as-text (then (c2 .put-page-count .ensures) (then (c1 .put-byte .ensures) (c .before .before .put-page .ensures))) (page-head _ _ _
+    (c2 .before .lines .ensures))
 
 pub put-page-spec : {M : Type 1} → statement M
-put-page-spec = tie.close (tie.spec lines-requires put-page-count-requires put-byte-requires put-page-requires same-length returns)
+put-page-spec =
+    tie.close
+    (tie.spec
+    lines-requires
+    put-page-count-requires
+    put-byte-requires
+    put-page-requires
+    same-length
+    returns)

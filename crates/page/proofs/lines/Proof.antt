@@ -24,14 +24,20 @@ enum-known-h c = search needs
 
 add-result : tie.Need-add-result
 add-result c =
-    let s = c .before .before .before .before .before .before .args .s in
-    let k = counts-within _ (reportIn (state s)) (subst (λ (x : Shown). Shows x (reportIn (state s))) (c .before .before .before .h .given .1) (c .before .before .before .before .before .report .ensures .is)) (shown-bounded (s .run) (s .edit)) in
+    let c1 = c .before .before .before .before .before in
+    let c2 = c1 .before in
+    let s = c2 .args .s in
+    let k = counts-within _ (reportIn (state s)) (subst (λ (x : Shown). Shows x (reportIn (state s))) (c .before .before .before .h .given .1)
+    (c1 .report .ensures .is)) (shown-bounded (s .run) (s .edit)) in
     omega (arith, k .0)
 
 add-result-2 : tie.Need-add-result-2
 add-result-2 c =
-    let s = c .before .before .before .before .before .before .before .args .s in
-    let k = counts-within _ (reportIn (state s)) (subst (λ (x : Shown). Shows x (reportIn (state s))) (c .before .before .before .before .h .given .1) (c .before .before .before .before .before .before .report .ensures .is)) (shown-bounded (s .run) (s .edit)) in
+    let c1 = c .before .before .before .before .before .before in
+    let c2 = c1 .before in
+    let s = c2 .args .s in
+    let k = counts-within _ (reportIn (state s)) (subst (λ (x : Shown). Shows x (reportIn (state s))) (c .before .before .before .before .h .given .1)
+    (c1 .report .ensures .is)) (shown-bounded (s .run) (s .edit)) in
     omega (arith, k .0, k .1)
 
 warnings-requires : tie.Need-warnings-requires
@@ -39,8 +45,12 @@ warnings-requires c κs = search needs
 
 add-result-3 : tie.Need-add-result-3
 add-result-3 c =
-    let s = c .before .before .before .before .before .before .before .before .args .s in
-    let k = counts-within _ (reportIn (state s)) (subst (λ (x : Shown). Shows x (reportIn (state s))) (c .before .before .before .before .before .h .given .1) (c .before .before .before .before .before .before .before .report .ensures .is)) (shown-bounded (s .run) (s .edit)) in
+    let c1 = c .before .before .before .before .before in
+    let c2 = c1 .before .before in
+    let c3 = c2 .before in
+    let s = c3 .args .s in
+    let k = counts-within _ (reportIn (state s)) (subst (λ (x : Shown). Shows x (reportIn (state s))) (c1 .h .given .1) (c2 .report .ensures .is))
+    (shown-bounded (s .run) (s .edit)) in
     omega (arith, k .0, k .1, k .2, c .warnings .ensures)
 
 returns : tie.Need-returns
@@ -51,8 +61,16 @@ returns c =
 
 returns-2 : tie.Need-returns-2
 returns-2 c =
-    let s = c .before .before .before .before .before .before .before .before .args .s in
-    omega (arith, lines-are _ (reportIn (state s)) (subst (λ (x : Shown). Shows x (reportIn (state s))) (c .before .before .before .before .before .h .given .1) (c .before .before .before .before .before .before .before .report .ensures .is)), c .warnings .ensures)
+    let c1 = c .before .before .before .before .before in
+    let c2 = c1 .before .before in
+    let c3 = c2 .before in
+    let s = c3 .args .s in
+    omega (
+      arith,
+      lines-are _ (reportIn (state s)) (subst (λ (x : Shown). Shows x (reportIn (state s))) (c1 .h .given .1)
+          (c2 .report .ensures .is)),
+      c .warnings .ensures,
+    )
 
 pub lines-spec : {M : Type 1} → statement M
 lines-spec =

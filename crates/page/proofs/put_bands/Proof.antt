@@ -44,16 +44,21 @@ enum-told : tie.Need-enum-told Inv-loop μ-loop
 enum-told c = search needs
 
 same-length : tie.Need-same-length Inv-loop μ-loop
-same-length c = same-room (then (c .before .before .before .before .before .before .before .put-bytes .ensures) (c .before .before .before .before .loop .inv .1))
+same-length c =
+    let c1 = c .before .before .before .before .before .before .before in
+    same-room (then (c1 .put-bytes .ensures) (c .before .before .before .before .loop .inv .1))
 
 returns : tie.Need-returns Inv-loop μ-loop
 returns c =
-    let a = c .before .before .before .before .before .before .before .before .before .before .before .args in
+    let c1 = c .before .before .before .before .before .before .before in
+    let c2 = c1 .before .before .before .before in
+    let a = c2 .args in
     let l = c .before .before .before .before .loop in
     let s = a .s in
     let e =
-    sym (place-list (λ p. p .bands) (l .i) (reportIn (state s))) ∙ sym (c .before .before .predictive-band .ensures .is) ∙ ap bandAtSays (c .enum-told .given .1) in
-    as-text (then (c .before .before .before .before .before .before .before .put-bytes .ensures) (l .inv .1))
+    sym (place-list (λ p. p .bands) (l .i) (reportIn (state s))) ∙ sym (c .before .before .predictive-band .ensures .is) ∙ ap bandAtSays
+    (c .enum-told .given .1) in
+    as-text (then (c1 .put-bytes .ensures) (l .inv .1))
     (ap (λ m. joinedLines (map bandLine m)) (all-taken (bandsIn s) (l .i) (a .n) e (omega arith)))
 
 put-band-requires : tie.Need-put-band-requires Inv-loop μ-loop

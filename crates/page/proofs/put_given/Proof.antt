@@ -29,8 +29,20 @@ returns c =
     let c1 = c .before .before .before .before .before .before in
     let c2 = c1 .before .before .before .before in
     let c3 = c2 .before .before .before .before in
-    λ p e d. as-text (then (c3 .put-head .ensures) (then (c2 .put-shots .ensures) (then (c1 .put-bands .ensures) (c .before .before .put-warnings .ensures)))) (whole-page (c .before .before .before .before .before .before .before .before .before .before .before .before .before .before .before .before .before .before .args .s)
-    (c .before .before .before .before .before .before .before .before .before .before .before .before .before .before .before .before .before .before .args .h) p e d)
+    λ p e d. as-text (then (c3 .put-head .ensures) (then (c2 .put-shots .ensures) (then (c1 .put-bands .ensures)
+    (c .before .before .put-warnings .ensures)))) (whole-page
+    (c .before .before .before .before .before .before .before .before .before .before .before .before .before .before .before .before .before .before
+    .args .s)
+    (c .before .before .before .before .before .before .before .before .before .before .before .before .before .before .before .before .before .before
+    .args .h) p e d)
 
 pub put-given-spec : {M : Type 1} → statement M
-put-given-spec = tie.close (tie.spec put-head-requires put-shots-requires put-bands-requires put-warnings-requires same-length returns)
+put-given-spec =
+    tie.close
+    (tie.spec
+    put-head-requires
+    put-shots-requires
+    put-bands-requires
+    put-warnings-requires
+    same-length
+    returns)

@@ -34,23 +34,32 @@ same-length c = same-room (c .before .before .put-bytes .ensures)
 
 returns : tie.Need-returns
 returns c =
-    let s = c .before .before .before .before .before .before .before .before .before .args .s in
+    let c1 = c .before .before .before .before .before in
+    let c2 = c1 .before .before in
+    let c3 = c2 .before .before in
+    let s = c3 .args .s in
     as-text (c .before .before .put-bytes .ensures)
     (sym (ap pageIn (none-stands (reportIn (state s))
-    (subst (λ (x : Shown). Shows x (reportIn (state s))) (c .before .before .before .before .before .enum-told .given .1) (c .before .before .before .before .before .before .before .report .ensures .is)))))
+    (subst (λ (x : Shown). Shows x (reportIn (state s))) (c1 .enum-told .given .1) (c2 .report .ensures .is)))))
 
 same-length-2 : tie.Need-same-length-2
 same-length-2 c =
-    let s = c .before .before .before .before .before .before .before .before .before .args .s in
+    let c1 = c .before .before .before .before .before in
+    let c2 = c1 .before .before in
+    let c3 = c2 .before .before in
+    let s = c3 .args .s in
     same-room (one-stands _ (reportIn (state s))
-    (subst (λ (x : Shown). Shows x (reportIn (state s))) (c .before .before .before .before .before .h .given .1) (c .before .before .before .before .before .before .before .report .ensures .is))
+    (subst (λ (x : Shown). Shows x (reportIn (state s))) (c1 .h .given .1) (c2 .report .ensures .is))
     (c .before .before .put-given .ensures))
 
 returns-2 : tie.Need-returns-2
 returns-2 c =
-    let s = c .before .before .before .before .before .before .before .before .before .args .s in
+    let c1 = c .before .before .before .before .before in
+    let c2 = c1 .before .before in
+    let c3 = c2 .before .before in
+    let s = c3 .args .s in
     one-stands _ (reportIn (state s))
-    (subst (λ (x : Shown). Shows x (reportIn (state s))) (c .before .before .before .before .before .h .given .1) (c .before .before .before .before .before .before .before .report .ensures .is))
+    (subst (λ (x : Shown). Shows x (reportIn (state s))) (c1 .h .given .1) (c2 .report .ensures .is))
     (c .before .before .put-given .ensures)
 
 pub put-page-spec : {M : Type 1} → statement M

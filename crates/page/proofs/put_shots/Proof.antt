@@ -45,16 +45,21 @@ enum-told : tie.Need-enum-told Inv-loop μ-loop
 enum-told c = search needs
 
 same-length : tie.Need-same-length Inv-loop μ-loop
-same-length c = same-room (then (c .before .before .before .before .before .before .before .put-bytes .ensures) (c .before .before .before .before .loop .inv .1))
+same-length c =
+    let c1 = c .before .before .before .before .before .before .before in
+    same-room (then (c1 .put-bytes .ensures) (c .before .before .before .before .loop .inv .1))
 
 returns : tie.Need-returns Inv-loop μ-loop
 returns c =
-    let a = c .before .before .before .before .before .before .before .before .before .before .before .args in
+    let c1 = c .before .before .before .before .before .before .before in
+    let c2 = c1 .before .before .before .before in
+    let a = c2 .args in
     let l = c .before .before .before .before .loop in
     let s = a .s in
     let e =
-    sym (place-list (λ p. p .observations) (l .i) (reportIn (state s))) ∙ sym (c .before .before .observation-result .ensures .is) ∙ ap resultSays (c .enum-told .given .1) in
-    as-text (then (c .before .before .before .before .before .before .before .put-bytes .ensures) (l .inv .1))
+    sym (place-list (λ p. p .observations) (l .i) (reportIn (state s))) ∙ sym (c .before .before .observation-result .ensures .is) ∙ ap resultSays
+    (c .enum-told .given .1) in
+    as-text (then (c1 .put-bytes .ensures) (l .inv .1))
     (ap (λ m. joinedLines (map shotLine m)) (all-taken (resultsIn false s) (l .i) (a .n) e (omega arith)))
 
 put-shot-requires : tie.Need-put-shot-requires Inv-loop μ-loop
@@ -68,12 +73,16 @@ loop-less c = omega arith
 
 loop-again : tie.Need-loop-again Inv-loop μ-loop
 loop-again c =
-    let a = c .before .before .before .before .before .before .before .before .before .before .before .before .before .before .before .before .args in
-    let l = c .before .before .before .before .before .before .before .before .before .loop in
+    let c1 = c .before .before .before .before .before in
+    let c2 = c1 .before .before in
+    let c3 = c2 .before .before in
+    let c4 = c3 .before .before .before .before .before .before .before in
+    let a = c4 .args in
+    let l = c3 .loop in
     let s = a .s in
     let e =
-    sym (place-list (λ p. p .observations) (l .i) (reportIn (state s))) ∙ sym (c .before .before .before .before .before .before .before .observation-result .ensures .is)
-    ∙ ap resultSays (c .before .before .before .before .before .found .given .1) in
+    sym (place-list (λ p. p .observations) (l .i) (reportIn (state s))) ∙ sym (c2 .observation-result .ensures .is)
+    ∙ ap resultSays (c1 .found .given .1) in
     (omega arith, as-text (then (l .inv .1) (c .before .before .put-shot .ensures)) (next-line shotLine (resultsIn false s) (l .i) _ e))
 
 same-length-2 : tie.Need-same-length-2 Inv-loop μ-loop
@@ -81,11 +90,13 @@ same-length-2 c = same-room (then (c .before .before .before .before .put-bytes 
 
 returns-2 : tie.Need-returns-2 Inv-loop μ-loop
 returns-2 c =
-    let a = c .before .before .before .before .before .before .before .before .args in
+    let c1 = c .before .before .before .before .before .before .before .before in
+    let a = c1 .args in
     let l = c .before .loop in
     let s = a .s in
     let k : l .i ≡ a .n = omega arith in
-    as-text (then (c .before .before .before .before .put-bytes .ensures) (l .inv .1)) (ap (λ (n : ℕ). joinedLines (map shotLine (take n (resultsIn false s)))) k)
+    as-text (then (c .before .before .before .before .put-bytes .ensures) (l .inv .1)) (ap (λ (n : ℕ). joinedLines (map shotLine (take n
+    (resultsIn false s)))) k)
 
 pub put-shots-spec : {M : Type 1} → statement M
 put-shots-spec =

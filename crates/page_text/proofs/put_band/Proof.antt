@@ -23,4 +23,11 @@ unfolding bandLine
 returns c = as-text (c .before .before .put-row .ensures) (by-ends _ _ (c .before .before .before .before .before .ends-of .ensures))
 
 pub put-band-spec : {M : Type 1} → statement M
-put-band-spec = tie.close (tie.spec ends-of-requires slice-aggregate-put-row put-row-requires same-length returns)
+put-band-spec =
+    tie.close
+    (tie.spec
+    ends-of-requires
+    slice-aggregate-put-row
+    put-row-requires
+    same-length
+    returns)

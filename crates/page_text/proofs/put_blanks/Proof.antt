@@ -22,7 +22,9 @@ same-length : tie.Need-same-length
 same-length c = search needs
 
 returns : tie.Need-returns
-returns c = as-text (c .before .before .put-bytes .ensures) (first-blanks (c .before .before .before .before .before .before .args .n) 14 (c .before .before .before .before .before .before .pre))
+returns c =
+    let c1 = c .before .before .before .before .before .before in
+    as-text (c .before .before .put-bytes .ensures) (first-blanks (c1 .args .n) 14 (c1 .pre))
 
 pub put-blanks-spec : {M : Type 1} → statement M
 put-blanks-spec =

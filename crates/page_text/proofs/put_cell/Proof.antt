@@ -49,4 +49,19 @@ unfolding cellText
 returns-3 c = as-text (c .before .before .put-number .ensures) (simp (c .before .before .before .before .before .cell2 .given .1))
 
 pub put-cell-spec : {M : Type 1} → statement M
-put-cell-spec = tie.close (tie.spec enum-told slice-aggregate-put-bytes put-bytes-requires enum-known-cell put-mark-requires enum-known-cell-2 put-number-requires same-length returns same-length-2 returns-2 same-length-3 returns-3)
+put-cell-spec =
+    tie.close
+    (tie.spec
+    enum-told
+    slice-aggregate-put-bytes
+    put-bytes-requires
+    enum-known-cell
+    put-mark-requires
+    enum-known-cell-2
+    put-number-requires
+    same-length
+    returns
+    same-length-2
+    returns-2
+    same-length-3
+    returns-3)

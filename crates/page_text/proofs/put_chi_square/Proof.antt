@@ -20,4 +20,10 @@ unfolding chiSquareLine
 returns c = as-text (c .before .before .put-row .ensures) (refl)
 
 pub put-chi-square-spec : {M : Type 1} → statement M
-put-chi-square-spec = tie.close (tie.spec slice-aggregate-put-row put-row-requires same-length returns)
+put-chi-square-spec =
+    tie.close
+    (tie.spec
+    slice-aggregate-put-row
+    put-row-requires
+    same-length
+    returns)

@@ -25,7 +25,18 @@ same-length c = same-room (c .before .before .put-row .ensures)
 
 returns : tie.Need-returns
 unfolding coefficientLine
-returns c = as-text (c .before .before .put-row .ensures) (by-ends _ _ (c .before .before .before .before .before .ends-of .ensures ∙ ap endsOf (c .before .before .before .before .before .before .coefficient-interval .ensures)))
+returns c =
+    let c1 = c .before .before .before .before .before in
+    let c2 = c1 .before in
+    as-text (c .before .before .put-row .ensures) (by-ends _ _ (c1 .ends-of .ensures ∙ ap endsOf (c2 .coefficient-interval .ensures)))
 
 pub put-coefficient-spec : {M : Type 1} → statement M
-put-coefficient-spec = tie.close (tie.spec coefficient-interval-requires ends-of-requires slice-aggregate-put-row put-row-requires same-length returns)
+put-coefficient-spec =
+    tie.close
+    (tie.spec
+    coefficient-interval-requires
+    ends-of-requires
+    slice-aggregate-put-row
+    put-row-requires
+    same-length
+    returns)

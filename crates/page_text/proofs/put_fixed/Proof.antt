@@ -44,7 +44,8 @@ same-length c =
     let c2 = c1 .before .before .before .before in
     let c3 = c2 .before .before .before .before in
     let c4 = c3 .before .before .before .before in
-    same-room (then (c4 .put-blanks .ensures) (then (c3 .put-sign .ensures) (then (c2 .put-count .ensures) (then (c1 .put-byte .ensures) (c .before .before .put-three .ensures)))))
+    same-room (then (c4 .put-blanks .ensures) (then (c3 .put-sign .ensures) (then (c2 .put-count .ensures) (then (c1 .put-byte .ensures)
+    (c .before .before .put-three .ensures)))))
 
 returns : tie.Need-returns
 returns c =
@@ -52,8 +53,21 @@ returns c =
     let c2 = c1 .before .before .before .before in
     let c3 = c2 .before .before .before .before in
     let c4 = c3 .before .before .before .before in
-    as-text (then (c4 .put-blanks .ensures) (then (c3 .put-sign .ensures) (then (c2 .put-count .ensures) (then (c1 .put-byte .ensures) (c .before .before .put-three .ensures))))) (aligned (c .before .before .before .before .before .before .before .before .before .before .before .before .before .before .before .before .before .before .before .before .before .before .before .args .minus) (c .before .before .before .before .before .before .before .before .before .before .before .before .before .before .before .before .before .before .before .before .before .before .before .args .q) _ _
-    (c .before .before .before .before .before .before .before .before .before .before .before .before .before .before .before .before .before .before .before .before .before .write-count .ensures .1) (c .before .before .before .before .before .before .before .before .before .before .before .before .before .before .before .before .before .before .before .room .ensures))
+    let start = c4 .before .before .before .before .before in
+    as-text (then (c4 .put-blanks .ensures) (then (c3 .put-sign .ensures) (then (c2 .put-count .ensures) (then (c1 .put-byte .ensures)
+    (c .before .before .put-three .ensures)))))
+    (aligned (start .args .minus) (start .args .q) _ _ (c4 .before .before .before .write-count .ensures .1) (c4 .before .room .ensures))
 
 pub put-fixed-spec : {M : Type 1} → statement M
-put-fixed-spec = tie.close (tie.spec write-count-requires room-requires put-blanks-requires put-sign-requires put-count-requires put-byte-requires put-three-requires same-length returns)
+put-fixed-spec =
+    tie.close
+    (tie.spec
+    write-count-requires
+    room-requires
+    put-blanks-requires
+    put-sign-requires
+    put-count-requires
+    put-byte-requires
+    put-three-requires
+    same-length
+    returns)

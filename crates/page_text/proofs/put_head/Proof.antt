@@ -29,4 +29,11 @@ returns c =
     as-text (then (c2 .put-speed .ensures) (then (c1 .put-coefficient .ensures) (c .before .before .put-chi-square .ensures))) (refl)
 
 pub put-head-spec : {M : Type 1} → statement M
-put-head-spec = tie.close (tie.spec put-speed-requires put-coefficient-requires put-chi-square-requires same-length returns)
+put-head-spec =
+    tie.close
+    (tie.spec
+    put-speed-requires
+    put-coefficient-requires
+    put-chi-square-requires
+    same-length
+    returns)

@@ -27,4 +27,11 @@ returns c =
     as-text (then (c1 .put-bytes .ensures) (c .before .before .put-byte .ensures)) (refl)
 
 pub put-mark-spec : {M : Type 1} → statement M
-put-mark-spec = tie.close (tie.spec slice-aggregate-put-bytes put-bytes-requires put-byte-requires same-length returns)
+put-mark-spec =
+    tie.close
+    (tie.spec
+    slice-aggregate-put-bytes
+    put-bytes-requires
+    put-byte-requires
+    same-length
+    returns)

@@ -46,7 +46,9 @@ same-length c = same-room (c .before .before .put-bytes .ensures)
 returns : tie.Need-returns
 unfolding shownText numberText
 returns c =
-    as-text (c .before .before .put-bytes .ensures) (by-shown _ (c .before .before .before .before .before .enum-told .given .1) (c .before .before .before .before .before .before .before .show .ensures))
+    let c1 = c .before .before .before .before .before in
+    let c2 = c1 .before .before in
+    as-text (c .before .before .put-bytes .ensures) (by-shown _ (c1 .enum-told .given .1) (c2 .show .ensures))
 
 same-length-2 : tie.Need-same-length-2
 same-length-2 c = same-room (c .before .before .put-bytes2 .ensures)
@@ -54,14 +56,36 @@ same-length-2 c = same-room (c .before .before .put-bytes2 .ensures)
 returns-2 : tie.Need-returns-2
 unfolding shownText numberText
 returns-2 c =
-    as-text (c .before .before .put-bytes2 .ensures) (by-shown _ (c .before .before .before .before .before .enum-told2 .given .1) (c .before .before .before .before .before .before .before .show .ensures))
+    let c1 = c .before .before .before .before .before in
+    let c2 = c1 .before .before in
+    as-text (c .before .before .put-bytes2 .ensures) (by-shown _ (c1 .enum-told2 .given .1) (c2 .show .ensures))
 
 same-length-3 : tie.Need-same-length-3
 same-length-3 c = same-room (c .before .before .put-fixed .ensures)
 
 returns-3 : tie.Need-returns-3
 unfolding shownText numberText
-returns-3 c = as-text (c .before .before .put-fixed .ensures) (by-shown _ (c .before .before .before .before .before .shown .given .1) (c .before .before .before .before .before .before .before .show .ensures))
+returns-3 c =
+    let c1 = c .before .before .before .before .before in
+    let c2 = c1 .before .before in
+    as-text (c .before .before .put-fixed .ensures) (by-shown _ (c1 .shown .given .1) (c2 .show .ensures))
 
 pub put-number-spec : {M : Type 1} → statement M
-put-number-spec = tie.close (tie.spec show-requires enum-told slice-aggregate-put-bytes put-bytes-requires enum-told-2 slice-aggregate-put-bytes-2 put-bytes-requires-2 enum-known-shown put-fixed-requires same-length returns same-length-2 returns-2 same-length-3 returns-3)
+put-number-spec =
+    tie.close
+    (tie.spec
+    show-requires
+    enum-told
+    slice-aggregate-put-bytes
+    put-bytes-requires
+    enum-told-2
+    slice-aggregate-put-bytes-2
+    put-bytes-requires-2
+    enum-known-shown
+    put-fixed-requires
+    same-length
+    returns
+    same-length-2
+    returns-2
+    same-length-3
+    returns-3)

@@ -25,7 +25,9 @@ part-put-bytes-start : tie.Need-part-put-bytes-start
 part-put-bytes-start c = search needs
 
 part-put-bytes-end : tie.Need-part-put-bytes-end
-part-put-bytes-end c = omega (arith, c .before .before .row .ensures, row-below (c .before .before .before .before .before .args .code), rows-length (c .before .before .before .phrases .ensures))
+part-put-bytes-end c =
+    let c1 = c .before .before .before .before .before in
+    omega (arith, c .before .before .row .ensures, row-below (c1 .args .code), rows-length (c .before .before .before .phrases .ensures))
 
 put-bytes-requires : tie.Need-put-bytes-requires
 put-bytes-requires c κs = search needs
@@ -34,7 +36,23 @@ same-length : tie.Need-same-length
 same-length c = same-room (c .before .before .put-bytes .ensures)
 
 returns : tie.Need-returns
-returns c = as-text (c .before .before .put-bytes .ensures) (by-row (c .before .before .before .before .before .before .before .before .before .args .code) (c .before .before .before .before .before .before .row .ensures) (c .before .before .before .before .before .before .before .phrases .ensures))
+returns c =
+    let c1 = c .before .before .before .before .before .before in
+    let c2 = c1 .before in
+    let c3 = c2 .before .before in
+    as-text (c .before .before .put-bytes .ensures) (by-row (c3 .args .code) (c1 .row .ensures) (c2 .phrases .ensures))
 
 pub put-phrase-spec : {M : Type 1} → statement M
-put-phrase-spec = tie.close (tie.spec phrases-requires row-requires mul-from add-to sub-put-bytes part-put-bytes-start part-put-bytes-end put-bytes-requires same-length returns)
+put-phrase-spec =
+    tie.close
+    (tie.spec
+    phrases-requires
+    row-requires
+    mul-from
+    add-to
+    sub-put-bytes
+    part-put-bytes-start
+    part-put-bytes-end
+    put-bytes-requires
+    same-length
+    returns)

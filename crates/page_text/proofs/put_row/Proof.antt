@@ -30,7 +30,8 @@ same-length c =
     let c2 = c1 .before .before .before .before in
     let c3 = c2 .before .before .before .before in
     let c4 = c3 .before .before .before .before in
-    same-room (then (c4 .put-bytes .ensures) (then (c3 .put-cell .ensures) (then (c2 .put-cell2 .ensures) (then (c1 .put-cell3 .ensures) (c .before .before .put-bytes2 .ensures)))))
+    same-room (then (c4 .put-bytes .ensures) (then (c3 .put-cell .ensures) (then (c2 .put-cell2 .ensures) (then (c1 .put-cell3 .ensures)
+    (c .before .before .put-bytes2 .ensures)))))
 
 returns : tie.Need-returns
 unfolding rowText
@@ -39,7 +40,18 @@ returns c =
     let c2 = c1 .before .before .before .before in
     let c3 = c2 .before .before .before .before in
     let c4 = c3 .before .before .before .before in
-    as-text (then (c4 .put-bytes .ensures) (then (c3 .put-cell .ensures) (then (c2 .put-cell2 .ensures) (then (c1 .put-cell3 .ensures) (c .before .before .put-bytes2 .ensures))))) (refl)
+    as-text (then (c4 .put-bytes .ensures) (then (c3 .put-cell .ensures) (then (c2 .put-cell2 .ensures) (then (c1 .put-cell3 .ensures)
+    (c .before .before .put-bytes2 .ensures))))) (refl)
 
 pub put-row-spec : {M : Type 1} → statement M
-put-row-spec = tie.close (tie.spec put-bytes-requires put-cell-requires put-cell-requires-2 put-cell-requires-3 slice-aggregate-put-bytes put-bytes-requires-2 same-length returns)
+put-row-spec =
+    tie.close
+    (tie.spec
+    put-bytes-requires
+    put-cell-requires
+    put-cell-requires-2
+    put-cell-requires-3
+    slice-aggregate-put-bytes
+    put-bytes-requires-2
+    same-length
+    returns)

@@ -25,7 +25,18 @@ same-length c = same-room (c .before .before .put-row .ensures)
 
 returns : tie.Need-returns
 unfolding speedLine
-returns c = as-text (c .before .before .put-row .ensures) (by-ends _ _ (c .before .before .before .before .before .ends-of .ensures ∙ ap endsOf (c .before .before .before .before .before .before .speed-interval .ensures)))
+returns c =
+    let c1 = c .before .before .before .before .before in
+    let c2 = c1 .before in
+    as-text (c .before .before .put-row .ensures) (by-ends _ _ (c1 .ends-of .ensures ∙ ap endsOf (c2 .speed-interval .ensures)))
 
 pub put-speed-spec : {M : Type 1} → statement M
-put-speed-spec = tie.close (tie.spec speed-interval-requires ends-of-requires slice-aggregate-put-row put-row-requires same-length returns)
+put-speed-spec =
+    tie.close
+    (tie.spec
+    speed-interval-requires
+    ends-of-requires
+    slice-aggregate-put-row
+    put-row-requires
+    same-length
+    returns)

@@ -33,8 +33,12 @@ three p q r = cc
 
 returns : tie.Need-returns
 returns c =
-    as-text (then (c .before .before .before .before .before .before .before .before .before .before .before .before .put-byte .ensures) (then (c .before .before .before .before .before .before .before .put-byte2 .ensures) (c .before .before .put-byte3 .ensures)))
-    (three (c .before .before .before .before .before .before .before .before .before .before .before .before .before .digit .ensures) (c .before .before .before .before .before .before .before .before .digit2 .ensures) (c .before .before .before .digit3 .ensures))
+    let c1 = c .before .before .before .before .before .before .before in
+    let c2 = c1 .before in
+    let c3 = c2 .before .before .before .before in
+    let c4 = c3 .before in
+    as-text (then (c3 .put-byte .ensures) (then (c1 .put-byte2 .ensures) (c .before .before .put-byte3 .ensures)))
+    (three (c4 .digit .ensures) (c2 .digit2 .ensures) (c .before .before .before .digit3 .ensures))
 
 pub put-three-spec : {M : Type 1} → statement M
 put-three-spec =

@@ -23,7 +23,8 @@ returns : tie.Need-returns
 unfolding warningLine
 returns c =
     let c1 = c .before .before .before .before .before .before .before in
-    as-text (then (c1 .put-phrase .ensures) (c .before .before .put-bytes .ensures)) (simp (c .before .before .before .before .before .before .before .before .before .if1 .taken))
+    as-text (then (c1 .put-phrase .ensures) (c .before .before .put-bytes .ensures)) (simp
+    (c .before .before .before .before .before .before .before .before .before .if1 .taken))
 
 slice-aggregate-put-bytes-2 : tie.Need-slice-aggregate-put-bytes-2
 slice-aggregate-put-bytes-2 c = search needs
@@ -39,4 +40,15 @@ unfolding warningLine
 returns-2 c = as-text (c .before .before .put-bytes2 .ensures) (simp (c .before .before .before .before .before .if1 .left))
 
 pub put-warning-spec : {M : Type 1} → statement M
-put-warning-spec = tie.close (tie.spec put-phrase-requires slice-aggregate-put-bytes put-bytes-requires same-length returns slice-aggregate-put-bytes-2 put-bytes-requires-2 same-length-2 returns-2)
+put-warning-spec =
+    tie.close
+    (tie.spec
+    put-phrase-requires
+    slice-aggregate-put-bytes
+    put-bytes-requires
+    same-length
+    returns
+    slice-aggregate-put-bytes-2
+    put-bytes-requires-2
+    same-length-2
+    returns-2)

@@ -46,7 +46,9 @@ same-length c =
     let c7 = c6 .before .before .before .before in
     let c8 = c7 .before .before .before .before in
     let c9 = c8 .before .before .before .before in
-    same-room (then (c9 .put-warning .ensures) (then (c8 .put-warning2 .ensures) (then (c7 .put-warning3 .ensures) (then (c6 .put-warning4 .ensures) (then (c5 .put-warning5 .ensures) (then (c4 .put-warning6 .ensures) (then (c3 .put-warning7 .ensures) (then (c2 .put-warning8 .ensures) (then (c1 .put-warning9 .ensures) (c .before .before .put-warning10 .ensures))))))))))
+    same-room (then (c9 .put-warning .ensures) (then (c8 .put-warning2 .ensures) (then (c7 .put-warning3 .ensures) (then (c6 .put-warning4 .ensures)
+    (then (c5 .put-warning5 .ensures) (then (c4 .put-warning6 .ensures) (then (c3 .put-warning7 .ensures) (then (c2 .put-warning8 .ensures) (then
+    (c1 .put-warning9 .ensures) (c .before .before .put-warning10 .ensures))))))))))
 
 returns : tie.Need-returns
 returns c =
@@ -59,7 +61,23 @@ returns c =
     let c7 = c6 .before .before .before .before in
     let c8 = c7 .before .before .before .before in
     let c9 = c8 .before .before .before .before in
-    as-text (then (c9 .put-warning .ensures) (then (c8 .put-warning2 .ensures) (then (c7 .put-warning3 .ensures) (then (c6 .put-warning4 .ensures) (then (c5 .put-warning5 .ensures) (then (c4 .put-warning6 .ensures) (then (c3 .put-warning7 .ensures) (then (c2 .put-warning8 .ensures) (then (c1 .put-warning9 .ensures) (c .before .before .put-warning10 .ensures)))))))))) (warnings-lines _)
+    as-text (then (c9 .put-warning .ensures) (then (c8 .put-warning2 .ensures) (then (c7 .put-warning3 .ensures) (then (c6 .put-warning4 .ensures)
+    (then (c5 .put-warning5 .ensures) (then (c4 .put-warning6 .ensures) (then (c3 .put-warning7 .ensures) (then (c2 .put-warning8 .ensures) (then
+    (c1 .put-warning9 .ensures) (c .before .before .put-warning10 .ensures)))))))))) (warnings-lines _)
 
 pub put-warnings-spec : {M : Type 1} → statement M
-put-warnings-spec = tie.close (tie.spec put-warning-requires put-warning-requires-2 put-warning-requires-3 put-warning-requires-4 put-warning-requires-5 put-warning-requires-6 put-warning-requires-7 put-warning-requires-8 put-warning-requires-9 put-warning-requires-10 same-length returns)
+put-warnings-spec =
+    tie.close
+    (tie.spec
+    put-warning-requires
+    put-warning-requires-2
+    put-warning-requires-3
+    put-warning-requires-4
+    put-warning-requires-5
+    put-warning-requires-6
+    put-warning-requires-7
+    put-warning-requires-8
+    put-warning-requires-9
+    put-warning-requires-10
+    same-length
+    returns)

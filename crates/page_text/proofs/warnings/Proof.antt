@@ -69,4 +69,26 @@ returns c =
     omega (arith, codes-length w)
 
 pub warnings-spec : {M : Type 1} → statement M
-warnings-spec = tie.close (tie.spec one-requires one-requires-2 add-result one-requires-3 add-result-2 one-requires-4 add-result-3 one-requires-5 add-result-4 one-requires-6 add-result-5 one-requires-7 add-result-6 one-requires-8 add-result-7 one-requires-9 add-result-8 one-requires-10 add-result-9 returns)
+warnings-spec =
+    tie.close
+    (tie.spec
+    one-requires
+    one-requires-2
+    add-result
+    one-requires-3
+    add-result-2
+    one-requires-4
+    add-result-3
+    one-requires-5
+    add-result-4
+    one-requires-6
+    add-result-5
+    one-requires-7
+    add-result-6
+    one-requires-8
+    add-result-7
+    one-requires-9
+    add-result-8
+    one-requires-10
+    add-result-9
+    returns)
