@@ -2,7 +2,7 @@
 use Prim.Native.Nat.{ℕ, _+_, _≤_}
 use mathlib.Core.Path.{_≡_, refl, sym, ap, _∙_}
 use mathlib.Core.Bool.{false}
-use mathlib.Core.List.{List, [], _∷_, _++_, map, append-nil}
+use mathlib.Core.List.{List, [], _∷_, _++_, map, append-nil, map-append}
 use mathlib.Core.Option.{Option, none, some}
 use native.Mathlib.Numerals.{add-one}
 use native.Mathlib.Omega.{arith}
@@ -28,10 +28,6 @@ use Rattle.page_text.proofs.Lengths.{page-length as page-length-of}
 use Rattle.page_text.proofs.Laws.{joined-append, page-parts, lines-count}
 
 -- ---- lines one after another
-
-map-append : {A : Type 0} (f : A → Text) (k l : List A) → map f (k ++ l) ≡ map f k ++ map f l
-map-append f [] l = refl
-map-append f (a ∷ k) l = ap (λ (m : List Text). f a ∷ m) (map-append f k l)
 
 -- one line more
 pub next-line : {A : Type 0} (f : A → Text) (l : List A) (i : ℕ) (a : A) → nth i l ≡ some a

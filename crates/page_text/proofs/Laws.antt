@@ -4,7 +4,7 @@ use mathlib.Core.Path.{_≡_, refl, sym, ap, _∙_}
 use mathlib.Core.Bool.{Bool, true, false, cond}
 use mathlib.Core.List.{List, [], _∷_, _++_, map, append-nil, append-assoc}
 use native.Mathlib.Omega.{arith}
-use lib.ListN.{length, take, drop, replicate, length-append}
+use lib.ListN.{length, take, drop, replicate, length-append, length-map}
 use lib.Ieee.{Float}
 use Rattle.definition.specs.Summary.{warn, Band, Report}
 use Rattle.definition.specs.declared.TruingUncertaintyWarningCodeV1.{TruingUncertaintyWarningCodeV1}
@@ -152,10 +152,6 @@ page-parts h results entered bands =
     ∙ ap (λ (t : Text). joinedLines (map shotLine results) ++ t) (joined-append (map bandLine bands) (map warningLine (codesOf (h .warnings)))) in
     rw (lists, append-assoc, append-assoc)
 
-map-length : {A : Type 0} (f : A → Text) (l : List A) → length (map f l) ≡ length l
-map-length f [] = refl
-map-length f (a ∷ l) = ap suc (map-length f l)
-
 pub lines-count : (p : Report) → length (pageLines p) ≡ 3 + length (p .observations) + length (p .bands) + length (p .warnings)
 unfolding pageLines
 lines-count p =
@@ -163,7 +159,7 @@ lines-count p =
       arith,
       length-append (map shotLine (p .observations)) (map bandLine (p .bands) ++ map warningLine (p .warnings)),
       length-append (map bandLine (p .bands)) (map warningLine (p .warnings)),
-      map-length shotLine (p .observations),
-      map-length bandLine (p .bands),
-      map-length warningLine (p .warnings),
+      length-map (p .observations) shotLine,
+      length-map (p .bands) bandLine,
+      length-map (p .warnings) warningLine,
     )
