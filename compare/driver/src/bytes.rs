@@ -10,8 +10,8 @@ use std::sync::Arc;
 use std::time::{Duration, Instant};
 
 use crate::inputs::{self, KINDS};
-use crate::player::PLAIN;
 use crate::rng::Rng;
+use estimator::Variant;
 
 /// How long a process may take over one input.
 const PATIENCE: Duration = Duration::from_secs(20);
@@ -215,7 +215,7 @@ impl Counts {
 }
 
 /// The first line in which two outputs differ, its number from 1, and both texts of it.
-pub fn first_difference(due: &[u8], found: &[u8]) -> (usize, String, String) {
+fn first_difference(due: &[u8], found: &[u8]) -> (usize, String, String) {
     let equal = due.iter().zip(found).take_while(|(d, f)| d == f).count();
     let number = due[..equal].iter().filter(|b| **b == b'\n').count() + 1;
     let first = due[..equal].iter().rposition(|b| *b == b'\n').map_or(0, |i| i + 1);
@@ -258,7 +258,7 @@ pub fn compare(path: &Path, count: u64, seed: u64, first: u64) -> bool {
         let own = crate::case_seed(seed, index);
         let (kind, input) = inputs::input(own);
         let (name, bytes) = (KINDS[kind].0, input.len());
-        let answers = || oracle::answers(&input, PLAIN);
+        let answers = || oracle::answers(&input, Variant::Recipes);
         let due = catch_unwind(AssertUnwindSafe(answers)).ok();
         let input = Arc::new(input);
         let fault = match &due {

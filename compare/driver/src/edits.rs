@@ -4,26 +4,23 @@
 use std::collections::VecDeque;
 
 use crate::case::{self, answering, Case};
-use crate::player::{Script, PLAIN};
+use crate::player::Script;
 use crate::rng::Rng;
 use crate::write;
-use estimator::{Opening, Requested, LIMIT};
+use estimator::{Opening, Requested, Variant, LIMIT};
 use oracle::form::Edit;
-use oracle::{page, Host, Text};
+use oracle::{page, Host};
 
 /// What a session opened with this list ends in: its line and its page.
 pub fn fresh(case: &Case, list: &[Requested]) -> (String, String) {
-    fresh_by(PLAIN, case, list)
-}
-
-fn fresh_by(text: Text<'_>, case: &Case, list: &[Requested]) -> (String, String) {
     let opening = Opening { distances: list.to_vec(), ..case.opening.clone() };
-    let declined = |refusal| (oracle::declined(refusal), page::answer(None));
+    let declined =
+        |(number, position)| (format!("(declined {number} {position})"), page::answer(None));
     if let Some(refusal) = estimator::opening_refusal(&opening) {
         return declined(refusal);
     }
     let mut answer = answering(&opening, &case.solver);
-    match text.run(&opening, &mut answer) {
+    match estimator::run(Variant::Recipes, &opening, &mut answer) {
         Ok(report) => (report.line, page::answer(Some(&report.sheet))),
         Err(refusal) => declined(refusal),
     }
@@ -38,7 +35,6 @@ enum Phase {
 }
 
 struct Bookkeeper<'a> {
-    text: Text<'a>,
     case: &'a Case,
     rng: Rng,
     queue: VecDeque<Vec<u8>>,
@@ -71,9 +67,8 @@ enum Call {
 }
 
 /// Plays one case; gives the conversation, what was wrong, and how many edits ended.
-pub fn play(text: Text<'_>, case: &Case, line: &mut u64) -> (Script, Vec<String>, u64) {
+pub fn play(case: &Case, line: &mut u64) -> (Script, Vec<String>, u64) {
     let mut keeper = Bookkeeper {
-        text,
         case,
         rng: Rng::new(case.seed ^ 0xb00c),
         queue: write::request(&case.opening).into_iter().map(String::into_bytes).collect(),
@@ -91,7 +86,7 @@ pub fn play(text: Text<'_>, case: &Case, line: &mut u64) -> (Script, Vec<String>
         closed: false,
     };
     keeper.calls_left = keeper.rng.between(1, 8);
-    oracle::serve(&mut keeper, text, line);
+    oracle::serve(&mut keeper, Variant::Recipes, line);
     (keeper.script, keeper.faults, keeper.ended)
 }
 
@@ -130,7 +125,7 @@ impl Host for Bookkeeper<'_> {
                 self.phase = Phase::Run(wanted)
             }
             (Call::Other | Call::Reply, Phase::Idle | Phase::Run(_), None) => {
-                let (due, page) = fresh_by(self.text, self.case, &self.book);
+                let (due, page) = fresh(self.case, &self.book);
                 self.check(&due, text);
                 self.standing = due.starts_with("(report");
                 self.page = page;
@@ -143,7 +138,7 @@ impl Host for Bookkeeper<'_> {
                 self.phase = Phase::Edit(wanted, edit, list)
             }
             (Call::Edit(_, list), _, None) | (Call::Reply, Phase::Edit(_, _, list), None) => {
-                let (due, page) = fresh_by(self.text, self.case, &list);
+                let (due, page) = fresh(self.case, &list);
                 self.check(&due, text);
                 if due.starts_with("(report") {
                     self.book = list;

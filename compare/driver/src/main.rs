@@ -3,7 +3,6 @@
 
 mod bytes;
 mod case;
-mod coverage;
 mod edits;
 mod facts;
 mod inputs;
@@ -13,8 +12,6 @@ mod program;
 mod rng;
 mod sample;
 mod solver;
-mod stream;
-mod tables;
 mod tally;
 mod untouched;
 mod write;
@@ -58,16 +55,7 @@ fn path(arguments: &Arguments) -> PathBuf {
 }
 
 fn program(arguments: &Arguments) -> Program {
-    Program::new(path(arguments), Vec::new())
-}
-
-/// The program that writes a line for each line; with this word it is the oracle.
-fn lines(arguments: &Arguments, word: &str) -> Command {
-    let mut command = Command::new(path(arguments));
-    if arguments.program.is_none() {
-        command.arg(word);
-    }
-    command
+    Program::new(path(arguments))
 }
 
 fn number(word: Option<&String>, default: u64) -> Result<u64, String> {
@@ -96,25 +84,18 @@ fn main() -> ExitCode {
                 Ok(bytes::compare(&path(&arguments), count()?, seed()?, first))
             }
             Some("edits") => Ok(edited(&arguments, count()?, seed()?)),
-            Some(mode @ ("numbers" | "coverage" | "tables"))
-                if words.get(1).is_some_and(|w| w == "list") =>
-            {
-                let directory = words.get(2).ok_or(format!("{mode} list wants a directory"))?;
-                let write = match mode {
-                    "numbers" => numbers::write,
-                    "coverage" => coverage::write,
-                    _ => tables::write,
-                };
-                let written = write(Path::new(directory));
+            Some("numbers") if words.get(1).is_some_and(|w| w == "list") => {
+                let directory = words.get(2).ok_or("numbers list wants a directory")?;
+                let written = numbers::write(Path::new(directory));
                 written.map(|()| true).map_err(|e| format!("{directory}: {e}"))
             }
             Some("numbers") => {
-                Ok(numbers::compare(lines(&arguments, "--numbers"), count()?, seed()?))
+                let mut command = Command::new(path(&arguments));
+                if arguments.program.is_none() {
+                    command.arg("--numbers");
+                }
+                Ok(numbers::compare(command, count()?, seed()?))
             }
-            Some("coverage") => {
-                Ok(coverage::compare(lines(&arguments, "--coverage-list"), count()?, seed()?))
-            }
-            Some("tables") => Ok(tables::compare(&path(&arguments), count()?, seed()?)),
             Some(other) => Err(format!("unknown mode {other}")),
             None if arguments.untouched => {
                 untouched::table(count()?, seed()?);
@@ -202,7 +183,7 @@ fn edited(arguments: &Arguments, count: u64, seed: u64) -> bool {
             line = 0;
         }
         let case = edits::consistent(case_seed(seed, index));
-        let (script, mut faults, edits) = edits::play(player::PLAIN, &case, &mut line);
+        let (script, mut faults, edits) = edits::play(&case, &mut line);
         ended += edits;
         tally.add(&script);
         if let Err(difference) = program.play(&script, index % 8 == 0) {

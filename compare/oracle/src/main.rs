@@ -1,13 +1,11 @@
 //! `oracle [--untouched]`: PROTOCOL.md's lines on standard input, the answers on
-//! standard output; `oracle [--coverage] FILE`: the same under a coverage table (L2).
-//! `oracle --numbers`: for each line of a double's digits its 14 columns of a page.
-//! `oracle --coverage-list`: for each line of a coverage file's bytes its table or refusal.
+//! standard output.  `oracle --numbers`: for each line of a double's digits its 14
+//! columns of a page.
 
-use std::ffi::OsString;
 use std::io::{self, BufRead, BufReader, BufWriter, Write};
 
 use estimator::Variant;
-use oracle::{coverage, declined, form, page, serve, Host, Text};
+use oracle::{form, page, serve, Host};
 
 struct Pipes {
     input: BufReader<io::Stdin>,
@@ -43,41 +41,25 @@ fn numbers(pipes: &mut Pipes) {
     }
 }
 
-fn files(pipes: &mut Pipes) {
-    while let Some(line) = pipes.line() {
-        let Some(file) = line.strip_suffix(b"\n").and_then(coverage::bytes) else {
-            eprintln!("oracle: not a file's bytes: {}", line.escape_ascii());
-            std::process::exit(2);
-        };
-        pipes.answer(&coverage::answer(&coverage::load(&file)));
-    }
-}
-
-const USAGE: &str = "usage: oracle [--untouched | --numbers | --coverage-list | [--coverage] FILE]";
-
 fn main() {
-    let arguments: Vec<OsString> = std::env::args_os().skip(1).collect();
-    let words: Vec<&str> =
-        arguments.iter().map(|argument| argument.to_str().unwrap_or_default()).collect();
-    let mut pipes =
-        Pipes { input: BufReader::new(io::stdin()), output: BufWriter::new(io::stdout()) };
-    match words.as_slice() {
-        [] => serve(&mut pipes, Text::Alone(Variant::Recipes), &mut 0),
-        ["--untouched"] => serve(&mut pipes, Text::Alone(Variant::Untouched), &mut 0),
-        ["--numbers"] => numbers(&mut pipes),
-        ["--coverage-list"] => files(&mut pipes),
-        ["--coverage", _] | [_] if words.len() == 2 || !words[0].starts_with("--") => {
-            // One that cannot be opened or read is an empty one.
-            let file = std::fs::read(&arguments[words.len() - 1]).unwrap_or_default();
-            match coverage::load(&file) {
-                Ok(table) => serve(&mut pipes, Text::Under(&table), &mut 0),
-                Err(refusal) => pipes.answer(&declined(refusal)),
+    let mut variant = Variant::Recipes;
+    let mut doubles = false;
+    for argument in std::env::args().skip(1) {
+        match argument.as_str() {
+            "--untouched" => variant = Variant::Untouched,
+            "--numbers" => doubles = true,
+            other => {
+                eprintln!("oracle: unknown argument {other}");
+                std::process::exit(2);
             }
         }
-        _ => {
-            eprintln!("{USAGE}");
-            std::process::exit(2);
-        }
+    }
+    let mut pipes =
+        Pipes { input: BufReader::new(io::stdin()), output: BufWriter::new(io::stdout()) };
+    if doubles {
+        numbers(&mut pipes);
+    } else {
+        serve(&mut pipes, variant, &mut 0);
     }
     let _ = pipes.output.flush();
 }

@@ -1,20 +1,18 @@
 // The session's answers as lines of the protocol, without their line feeds.
 ghost use Rattle.std.specs.Prelude.{◌≡◌, true, take};
 ghost use Rattle.std.proofs.Math.Option.{some};
-ghost use Rattle.definition.specs.Coverage.{rows_under, approximation_by, CoveredReport};
-ghost use Rattle.coverage.specs.Table.{rows_in};
-ghost use Rattle.covered_report.specs.Reading.{covered_in};
+ghost use Rattle.definition.specs.Summary.{Report};
 ghost use Rattle.report.specs.Places.{nth, result_says};
 ghost use Rattle.definition.specs.declared.Step.{Step};
 ghost use Rattle.definition.specs.declared.Distances.{Distances};
-ghost use Rattle.report.specs.Reading.{HeadWith};
+ghost use Rattle.report.specs.Reading.{HeadOf};
+ghost use Rattle.report.specs.Reading.{report_in};
 ghost use Rattle.editing.specs.Meaning.{state};
 ghost use Rattle.report_text.specs.Writing.{Writes};
 ghost use Rattle.report_text.specs.Texts.{results_text, bands_text, report_text};
 ghost use Rattle.report_text.specs.Pieces.{baseline_list};
 ghost use Rattle.answer_text.specs.Answers.{results_in, bands_in, standing_text, answer_text};
 
-use coverage::Table;
 use definition::Step;
 use editing::{Answer, Session};
 use report::{BandAt, Baseline, ResultAt, Shown, UncertaintyTruingReportV1};
@@ -46,9 +44,9 @@ fn put_results(out: &mut [u8], at: usize, s: Session, of_baseline: bool, n: usiz
     report_text::put_byte(out, next, b')')
 }
 
-// The first n bands, under a table.
-fn put_bands(out: &mut [u8], at: usize, s: Session, n: usize, table: Table) -> usize
-    ensures { Writes out.old at out.new result (bands_text (take n (bands_in (rows_in table) s))) }
+// The first n bands.
+fn put_bands(out: &mut [u8], at: usize, s: Session, n: usize) -> usize
+    ensures { Writes out.old at out.new result (bands_text (take n (bands_in s))) }
 {
     let mut next = report_text::put_byte(out, at, b'(');
     let mut i = 0usize;
@@ -57,7 +55,7 @@ fn put_bands(out: &mut [u8], at: usize, s: Session, n: usize, table: Table) -> u
         let BandAt::Given(b) = found else {
             return report_text::put_byte(out, next, b')');
         };
-        next = report_text::put_next_band(out, next, i, b, table);
+        next = report_text::put_next_band(out, next, i, b);
         i += 1;
     }
     report_text::put_byte(out, next, b')')
@@ -73,15 +71,9 @@ fn put_baseline_list(out: &mut [u8], at: usize, s: Session, b: Baseline, n: usiz
     }
 }
 
-// A report under a table by its head, its lists read from the session.
-fn put_shown(
-    out: &mut [u8],
-    at: usize,
-    s: Session,
-    h: UncertaintyTruingReportV1,
-    table: Table,
-) -> usize
-    ensures { (p : CoveredReport) → covered_in (rows_in table) (state s) ≡ some p → HeadWith (approximation_by (rows_under (rows_in table))) h p → Writes out.old at out.new result (report_text p) }
+// A report by its head, its lists read from the session.
+fn put_shown(out: &mut [u8], at: usize, s: Session, h: UncertaintyTruingReportV1) -> usize
+    ensures { (p : Report) → report_in (state s) ≡ some p → HeadOf h p → Writes out.old at out.new result (report_text p) }
 {
     let baseline = h.baseline;
     let n = h.observations;
@@ -91,30 +83,29 @@ fn put_shown(
     let at = report_text::put_baseline_head(out, at, baseline);
     let at = put_baseline_list(out, at, s, baseline, n);
     let at = report_text::put_baseline_end(out, at, baseline);
-    let at = report_text::put_middle(out, at, h, table);
-    let at = put_bands(out, at, s, m, table);
+    let at = report_text::put_middle(out, at, h);
+    let at = put_bands(out, at, s, m);
     report_text::put_end(out, at, h)
 }
 
-// The report that stands, under a table, or nothing where none does.
-fn put_report(out: &mut [u8], at: usize, s: Session, table: Table) -> usize
-    ensures { Writes out.old at out.new result (standing_text (covered_in (rows_in table) (state s))) }
+// The report that stands, or nothing where none does.
+fn put_report(out: &mut [u8], at: usize, s: Session) -> usize
+    ensures { Writes out.old at out.new result (standing_text (report_in (state s))) }
 {
-    match covered_report::report(s, table) {
+    match editing::report(s) {
         Shown::Absent => report_text::put_bytes(out, at, b""),
-        Shown::Given(h) => put_shown(out, at, s, h, table),
+        Shown::Given(h) => put_shown(out, at, s, h),
     }
 }
 
-// An answer under a table.
-pub fn put_answer(out: &mut [u8], at: usize, a: Answer, table: Table) -> usize
-    ensures { Writes out.old at out.new result (answer_text (rows_in table) a) }
+pub fn put_answer(out: &mut [u8], at: usize, a: Answer) -> usize
+    ensures { Writes out.old at out.new result (answer_text a) }
 {
     let s = a.session;
     let step = a.step;
     match step {
         Step::Question(mv, bc, list) => report_text::put_question(out, at, list, mv, bc),
-        Step::Report => put_report(out, at, s, table),
+        Step::Report => put_report(out, at, s),
         Step::Refused(n, i) => report_text::put_declined(out, at, n as u64, i as u64),
     }
 }

@@ -14,20 +14,17 @@ use Rattle.numeric.specs.Numeric.{zero64}
 use Rattle.definition.specs.Request.{Opening}
 use Rattle.definition.specs.Run as run
 use Rattle.definition.specs.Run.{Run, done, refuse, ask}
-use Rattle.definition.specs.Coverage.{Table, CoveredReport}
+use Rattle.definition.specs.Summary.{Report}
 use Rattle.definition.specs.Laws.{put}
 use Rattle.definition.specs.Whole.{whole}
 use Rattle.definition.specs.Session as arrays
 use Rattle.definition.specs.Session.{State, asking, standing, over, head, more_of, right_length, wants, either}
-use Rattle.coverage.specs.Table.{rows_in}
-use Rattle.coverage.specs.declared.Table.{Table as Loaded}
-use Rattle.coverage.proofs.TableRows.{rows_most}
-use Rattle.covered_report.specs.Reading.{covered_in}
+use Rattle.report.specs.Reading.{report_in}
 use Rattle.editing.specs.Meaning.{state, seen}
 use Rattle.editing.proofs.Contracts.{Stands as Stood, Declines, entries_taken, Opened, Replied}
 use Rattle.editing.specs.declared.Session.{Session}
 use Rattle.editing.specs.declared.Answer.{Answer as Given}
-use Rattle.demands.specs.Calls.{Call, reply, first, after_call, due_to}
+use Rattle.demands.specs.Calls.{Call, reply, first, finished_at, report_by, after_call, due_to}
 use Rattle.demands.specs.Demands.{Meets, count}
 use Rattle.lines.specs.Lines.{Form}
 use Rattle.lines.specs.Reading.{entries_in, form_in, form_says}
@@ -42,7 +39,7 @@ use Rattle.answer_text.specs.Answers.{said_text, line}
 use Rattle.answer_text.proofs.Fits.{answer_fits}
 use Rattle.page_text.specs.Page.{lines_in, page_in}
 use Rattle.page.proofs.Laws.{page_length}
-use Rattle.conversation.specs.Conversation.{Conversation, Answer, malformed_at, Answered, shown_in, answer_text, malformed_line, collected, in_place, opens, calls}
+use Rattle.conversation.specs.Conversation.{Conversation, Answer, malformed_at, Answered, answer_text, malformed_line, collected, in_place, opens, calls}
 use Rattle.conversation.specs.Conversation.{reply_of, next_line, answer_to, page_answer}
 use Rattle.requests.specs.Kept.{kept, opening_in, Keeps}
 use Rattle.conversation.specs.Tracks.{Stands, Tracks, response_says, response_text, Responds, Fills}
@@ -72,25 +69,25 @@ module _ (h : Held) (u : Conversation) (k : Tracks h u) where
   malformed_responds = record { conversation = k; says = ap malformed_at k.lines }
 
   pub collected_responds : (section : Section) (r : Request) (o : Opening) → Keeps r o
-      → Responds (record { conversation = record { lines = h.lines; section = section; request = r; session = h.session; table = h.table }; response = response.Nothing })
+      → Responds (record { conversation = record { lines = h.lines; section = section; request = r; session = h.session }; response = response.Nothing })
       (collected u section o)
-  collected_responds section r o q = record { conversation = record { lines = k.lines; section = refl; request = q; session = k.session; table = k.table }; says = refl }
+  collected_responds section r o q = record { conversation = record { lines = k.lines; section = refl; request = q; session = k.session }; says = refl }
 
   pub call_responds : (x : Call) (a : Given) → Meets x h.session a
       → Responds (record
-      { conversation = record { lines = h.lines; section = h.section; request = h.request; session = a.session; table = h.table }; response = response.Says a.step })
+      { conversation = record { lines = h.lines; section = h.section; request = h.request; session = a.session }; response = response.Says a.step })
       (calls u x)
   call_responds x a m =
       let c = called h.session u.opening u.at k.session x a m in
-      record { conversation = record { lines = k.lines; section = k.section; request = k.request; session = c.stands; table = k.table }; says = ap Answer.says c.says }
+      record { conversation = record { lines = k.lines; section = k.section; request = k.request; session = c.stands }; says = ap Answer.says c.says }
 
   pub open_responds : (a : Given) → Opened (opening_in h.request) a
       → Responds (record
-      { conversation = record { lines = h.lines; section = Closed; request = h.request; session = a.session; table = h.table }; response = response.Says a.step })
+      { conversation = record { lines = h.lines; section = Closed; request = h.request; session = a.session }; response = response.Says a.step })
       (opens u)
   open_responds a m =
       let c = opened u.request a (subst (λ (o : Opening). Opened o a) k.request.same m) in
-      record { conversation = record { lines = k.lines; section = refl; request = k.request; session = c.stands; table = k.table }; says = ap Answer.says c.says }
+      record { conversation = record { lines = k.lines; section = refl; request = k.request; session = c.stands }; says = ap Answer.says c.says }
 
   pub asked_responds : (n : ℕ) → n ≡ count h.session
       → Responds (record { conversation = h; response = response.Asked n }) (u, Answer.count (put (whole u.opening) u.at.run))
@@ -102,16 +99,16 @@ module _ (h : Held) (u : Conversation) (k : Tracks h u) where
   -- ---- the next line
 
   pub next_more : h.lines < 0xffff_ffff_ffff_ffff
-      → Tracks (record { lines = h.lines + 1; section = h.section; request = h.request; session = h.session; table = h.table }) (next_line u)
+      → Tracks (record { lines = h.lines + 1; section = h.section; request = h.request; session = h.session }) (next_line u)
   unfolding more_of
-  next_more l = record { lines = more h.lines l ∙ ap more_of k.lines; section = k.section; request = k.request; session = k.session; table = k.table }
+  next_more l = record { lines = more h.lines l ∙ ap more_of k.lines; section = k.section; request = k.request; session = k.session }
     where
       more : (n : ℕ) → n < 0xffff_ffff_ffff_ffff → n + 1 ≡ more_of n
       more n g = add-one n ∙ sym (ap (λ (b : Bool). cond b (suc n) n) (lt-ltb n 0xffff_ffff_ffff_ffff g))
 
   pub next_full : 0xffff_ffff_ffff_ffff ≤ h.lines → Tracks h (next_line u)
   unfolding more_of
-  next_full l = record { lines = full h.lines l ∙ ap more_of k.lines; section = k.section; request = k.request; session = k.session; table = k.table }
+  next_full l = record { lines = full h.lines l ∙ ap more_of k.lines; section = k.section; request = k.request; session = k.session }
     where
       full : (n : ℕ) → 0xffff_ffff_ffff_ffff ≤ n → n ≡ more_of n
       full n g = by (ltb n 0xffff_ffff_ffff_ffff) refl
@@ -122,44 +119,40 @@ module _ (h : Held) (u : Conversation) (k : Tracks h u) where
 
   -- ---- the text
 
-  shown_so : covered_in (rows_in h.table) (state h.session) ≡ shown_in u
-  shown_so = ap (λ (t : Table). covered_in t (state h.session)) k.table ∙ reported u.table h.session u.opening u.at k.session
-
-  pub text_so : (r : Response) (a : Answer) → response_says r ≡ a → response_text (rows_in h.table) h.session r ≡ answer_text u a
+  pub text_so : (r : Response) (a : Answer) → response_says r ≡ a → response_text h.session r ≡ answer_text u a
   text_so r a e = by r ∙ ap (answer_text u) e
     where
-      by : (r : Response) → response_text (rows_in h.table) h.session r ≡ answer_text u (response_says r)
+      by : (r : Response) → response_text h.session r ≡ answer_text u (response_says r)
       by response.Nothing = refl
       by (response.Malformed n) = refl
       by (response.Asked n) = refl
-      by response.Page = ap page_answer shown_so
-      by (response.Says step) = ap (λ (p : Option CoveredReport). line (said_text step p)) shown_so
+      by response.Page = ap page_answer (reported h.session u.opening u.at k.session)
+      by (response.Says step) = ap (λ (p : Option Report). line (said_text step p)) (reported h.session u.opening u.at k.session)
 
 -- the page behind its head
 pub page_head : (n k : ℕ) (t : Text) → n ≡ k → page_count_text n ++ ((10 ∷ []) ++ t) ≡ line (page_count_text k) ++ t
 page_head n k t e = ap (λ (m : ℕ). page_count_text m ++ (10 ∷ t)) e ∙ sym (append_assoc (page_count_text k) (10 ∷ []) t)
 
 -- the page and its head fit the buffer
-page_fits : (t : Loaded) (s : Session) → length (page_answer (covered_in (rows_in t) (state s))) ≤ 131072
-page_fits t s =
-    let shown = covered_in (rows_in t) (state s) in
-    let head = page_count_text (length (lines_in shown)) in
+page_fits : (s : Session) → length (page_answer (report_in (state s))) ≤ 32768
+page_fits s =
+    let head = page_count_text (length (lines_in (report_in (state s)))) in
     omega (
       arith,
-      page_count_length (length (lines_in shown)),
+      page_count_length (length (lines_in (report_in (state s)))),
       length-append head (10 ∷ []),
-      length-append (line head) (page_in shown),
-      page_length (rows_in t) (rows_most t) s,
+      length-append (line head) (page_in (report_in (state s))),
+      page_length s,
     )
 
 -- every response fits the buffer
-pub response_fits : (t : Loaded) (s : Session) (r : Response) → length (response_text (rows_in t) s r) ≤ 131072
+pub response_fits : (s : Session) (r : Response) → length (response_text s r) ≤ 32768
 unfolding answers.answer_text
-response_fits t s response.Nothing = omega arith
-response_fits t s (response.Malformed n) = omega (arith, malformed_length n, length-append (malformed_text n) (10 ∷ []))
-response_fits t s (response.Asked n) = omega (arith, asked_length n, length-append (asked_text n) (10 ∷ []))
-response_fits t s response.Page = page_fits t s
-response_fits t s (response.Says step) = answer_fits t (record { step = step; session = s })
+response_fits s response.Nothing = omega arith
+response_fits s (response.Malformed n) = omega (arith, malformed_length n, length-append (malformed_text n) (10 ∷ []))
+response_fits s (response.Asked n) = omega (arith, asked_length n, length-append (asked_text n) (10 ∷ []))
+response_fits s response.Page = page_fits s
+response_fits s (response.Says step) = answer_fits (record { step = step; session = s })
 
 -- a text that fits is written whole
 pub fills : {out after_call : Text} {n : ℕ} {text : Text} → length text ≤ length out → Writes out 0 after_call n text → Fills out after_call n text
@@ -225,12 +218,12 @@ by_form l f g e q u r d = subst (λ (x : Form). Responds r (answer_to u x)) (sym
 
 -- what is answered stands whole in the buffer
 pub answered_fills :
-    {out after_call : Text} {n : ℕ} (h : Held) (u : Conversation) → Tracks h u → (r : Response) (a : Answer) → response_says r ≡ a → length out ≡ 131072
-    → Writes out 0 after_call n (response_text (rows_in h.table) h.session r) → Fills out after_call n (answer_text u a)
+    {out after_call : Text} {n : ℕ} (h : Held) (u : Conversation) → Tracks h u → (r : Response) (a : Answer) → response_says r ≡ a → length out ≡ 32768
+    → Writes out 0 after_call n (response_text h.session r) → Fills out after_call n (answer_text u a)
 answered_fills {out} {after_call} {n} h u k r a e l w = subst (Fills out after_call n) (text_so h u k r a e)
-    (fills (omega (arith, response_fits h.table h.session r)) w)
+    (fills (omega (arith, response_fits h.session r)) w)
 
 pub malformed_fills :
-    {out after_call : Text} {n : ℕ} (m : ℕ) → length out ≡ 131072 → Writes out 0 after_call n (line (malformed_text m))
+    {out after_call : Text} {n : ℕ} (m : ℕ) → length out ≡ 32768 → Writes out 0 after_call n (line (malformed_text m))
     → Fills out after_call n (line (malformed_text m))
 malformed_fills {out} {after_call} {n} m l w = fills (omega (arith, malformed_length m, length-append (malformed_text m) (10 ∷ []))) w

@@ -3,9 +3,7 @@ use Rattle.std.specs.Prelude.{ℕ, ◌≡◌, [], ◌++◌, ◌⊎◌, length, d
 use Rattle.definition.specs.Request.{Opening}
 use Rattle.definition.specs.Run.{refuse}
 use Rattle.definition.specs.Whole.{whole}
-use Rattle.definition.specs.Coverage.{Table}
-use Rattle.coverage.specs.Table.{rows_in}
-use Rattle.covered_report.specs.Reading.{covered_in}
+use Rattle.report.specs.Reading.{report_in}
 use Rattle.editing.specs.Meaning.{state}
 use Rattle.editing.specs.declared.Session.{Session}
 use Rattle.demands.specs.Calls.{At, first}
@@ -44,7 +42,6 @@ pub record Tracks (h : Held) (t : Conversation) : Type 0 where
   pub section : h.section ≡ t.section
   pub request : Keeps h.request t.request
   pub session : Stands h.session t.opening t.at
-  pub table : rows_in h.table ≡ t.table
 
 -- ---- what is answered
 
@@ -55,13 +52,13 @@ response_says (response.Asked n) = count n
 response_says response.Page = shown_page
 response_says (response.Says step) = says step
 
--- by the table and the session that the code holds
-abbrev pub response_text : Table → Session → Response → Text
-response_text t s response.Nothing = []
-response_text t s (response.Malformed n) = line (malformed_text n)
-response_text t s (response.Asked n) = line (asked_text n)
-response_text t s response.Page = page_answer (covered_in t (state s))
-response_text t s (response.Says step) = line (said_text step (covered_in t (state s)))
+-- by the session that the code holds
+abbrev pub response_text : Session → Response → Text
+response_text s response.Nothing = []
+response_text s (response.Malformed n) = line (malformed_text n)
+response_text s (response.Asked n) = line (asked_text n)
+response_text s response.Page = page_answer (report_in (state s))
+response_text s (response.Says step) = line (said_text step (report_in (state s)))
 
 pub record Responds (r : Responded) (a : Answered) : Type 0 where
   pub conversation : Tracks r.conversation a.0

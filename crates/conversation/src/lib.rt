@@ -2,8 +2,7 @@
 ghost use Rattle.definition.specs.Request.{Opening};
 ghost use Rattle.definition.specs.Meaning.{number_of};
 ghost use Rattle.std.specs.Prelude.{◌≡◌};
-ghost use Rattle.coverage.specs.Table.{rows_in};
-ghost use Rattle.covered_report.specs.Reading.{covered_in};
+ghost use Rattle.report.specs.Reading.{report_in};
 ghost use Rattle.editing.specs.Meaning.{state, seen};
 ghost use Rattle.demands.specs.Calls.{Call};
 ghost use Rattle.demands.specs.Demands.{Meets};
@@ -17,7 +16,6 @@ ghost use Rattle.conversation.specs.Conversation as defined;
 ghost use Rattle.conversation.specs.Conversation.{takes_shot, takes_coefficient, takes_distance, malformed_line, calls, answer_to, next_line, page_answer, initial};
 ghost use Rattle.conversation.specs.Tracks.{Tracks, response_text, Responds, Answers, AnswersUnended};
 
-use coverage::Table;
 use definition::{Number, Point, Step};
 use editing::{Answer, Session};
 use lines::{Line, ReadForm};
@@ -32,14 +30,13 @@ pub enum Section {
     Distances,
 }
 
-// The conversation: the lines read, the request with its section, the session, and the coverage table.
+// The conversation: the lines read, the request with its section, and the session.
 #[derive(Drop)]
 pub struct Conversation {
     lines: u64,
     section: Section,
     request: Request,
     session: Session,
-    table: Table,
 }
 
 // What is written to a line: nothing, that it is malformed, the count, the page, or the session's answer.
@@ -121,14 +118,12 @@ fn collected(t: Conversation, section: Section, request: Request) -> Responded
 {
     let lines = t.lines;
     let session = t.session;
-    let table = t.table;
     Responded {
         conversation: Conversation {
             lines,
             section,
             request,
             session,
-            table,
         },
         response: Response::Nothing,
     }
@@ -209,7 +204,6 @@ fn take_open(t: Conversation) -> Responded
     }
     let request = t.request;
     let lines = t.lines;
-    let table = t.table;
     let opened = requests::opened(request);
     let session = opened.session;
     let step = opened.step;
@@ -219,7 +213,6 @@ fn take_open(t: Conversation) -> Responded
             section: Section::Closed,
             request,
             session,
-            table,
         },
         response: Response::Says(step),
     }
@@ -327,8 +320,8 @@ fn next_line(t: Conversation) -> Conversation
 }
 
 // Before the first request there is no session: an empty request is refused.
-pub fn start(table: Table) -> Conversation
-    ensures { Tracks result (initial (rows_in table)) }
+pub fn start() -> Conversation
+    ensures { Tracks result initial }
 {
     let request = requests::empty_request(Point { mv: 0.0, bc: 0.0 });
     let a = requests::opened(request);
@@ -338,17 +331,16 @@ pub fn start(table: Table) -> Conversation
         section: Section::Closed,
         request,
         session,
-        table,
     }
 }
 
 // ---- writing
 
 // The session's answer, with its line feed.
-fn put_step(out: &mut [u8], session: Session, step: Step, table: Table) -> usize
-    ensures { Writes out.old 0 out.new result (line (said_text step (covered_in (rows_in table) (state session)))) }
+fn put_step(out: &mut [u8], session: Session, step: Step) -> usize
+    ensures { Writes out.old 0 out.new result (line (said_text step (report_in (state session)))) }
 {
-    let at = answer_text::put_answer(out, 0, Answer { step, session }, table);
+    let at = answer_text::put_answer(out, 0, Answer { step, session });
     report_text::put_byte(out, at, 10)
 }
 
@@ -360,12 +352,12 @@ fn put_count(out: &mut [u8], n: u64) -> usize
 }
 
 // How many lines the page of the session has, and these.
-fn put_page(out: &mut [u8], session: Session, table: Table) -> usize
-    ensures { Writes out.old 0 out.new result (page_answer (covered_in (rows_in table) (state session))) }
+fn put_page(out: &mut [u8], session: Session) -> usize
+    ensures { Writes out.old 0 out.new result (page_answer (report_in (state session))) }
 {
-    let at = report_text::put_page_count(out, 0, page::lines(session, table) as u64);
+    let at = report_text::put_page_count(out, 0, page::lines(session) as u64);
     let at = report_text::put_byte(out, at, 10);
-    page::put_page(out, at, session, table)
+    page::put_page(out, at, session)
 }
 
 fn put_malformed(out: &mut [u8], n: u64) -> usize
@@ -375,15 +367,15 @@ fn put_malformed(out: &mut [u8], n: u64) -> usize
     report_text::put_byte(out, at, 10)
 }
 
-fn put_response(out: &mut [u8], session: Session, response: Response, table: Table) -> usize
-    ensures { Writes out.old 0 out.new result (response_text (rows_in table) session response) }
+fn put_response(out: &mut [u8], session: Session, response: Response) -> usize
+    ensures { Writes out.old 0 out.new result (response_text session response) }
 {
     match response {
         Response::Nothing => report_text::put_bytes(out, 0, b""),
         Response::Malformed(n) => put_malformed(out, n),
         Response::Asked(n) => put_count(out, n),
-        Response::Page => put_page(out, session, table),
-        Response::Says(step) => put_step(out, session, step, table),
+        Response::Page => put_page(out, session),
+        Response::Says(step) => put_step(out, session, step),
     }
 }
 
@@ -395,20 +387,19 @@ pub struct Replied {
 }
 
 // A line of the host: the conversation after it, and how many bytes are written.
-pub fn answer(t: Conversation, l: Line, out: &mut [u8; 131072]) -> Replied
+pub fn answer(t: Conversation, l: Line, out: &mut [u8; 32768]) -> Replied
     ensures { Answers t l out.old out.new result }
 {
     let r = respond(next_line(t), l);
     let conversation = r.conversation;
     let response = r.response;
     let session = conversation.session;
-    let table = conversation.table;
-    let len = put_response(out, session, response, table);
+    let len = put_response(out, session, response);
     Replied { conversation, len }
 }
 
 // The input has ended in a line without its line feed, which is malformed.
-pub fn unended(t: Conversation, out: &mut [u8; 131072]) -> usize
+pub fn unended(t: Conversation, out: &mut [u8; 32768]) -> usize
     ensures { AnswersUnended t out.old out.new result }
 {
     let last = next_line(t);

@@ -8,4 +8,3 @@ pub mod Reading
 mod Ranges
 mod Warnings
 pub mod Calls
-pub mod Coverage

@@ -6,7 +6,6 @@ pub mod Likelihood
 pub mod Mesh
 pub mod Fit
 pub mod Summary
-pub mod Coverage
 pub mod Whole
 pub mod Host
 pub mod Session

@@ -160,10 +160,3 @@ pub enum TruingApproximationV1 {
     Available(TruingGaussianApproximationV1, Symmetric2),
     Unavailable(TruingApproximationFailureCodeV1),
 }
-
-// A row of a coverage table: a level and its factor.
-#[derive(Drop)]
-pub struct CoverageRow {
-    pub level: f64,
-    pub factor: f64,
-}

@@ -11,24 +11,24 @@ use lib.Ieee.{Float}
 use Rattle.definition.specs.Request.{Requested, Opening}
 use Rattle.definition.specs.Run.{Run, done, refuse, ask, Reply, refused, entries, Which, shots, distances, new}
 use Rattle.definition.specs.Host.{Outcome, ends, refuses, Host, play, questions}
-use Rattle.definition.specs.Summary.{Finished}
+use Rattle.definition.specs.Summary.{Finished, Report, report_of}
 use Rattle.definition.specs.Whole.{whole, Edit, put_in, take_out, exchange, edited, placed, edit}
 use Rattle.definition.specs.Laws.{Asks}
 use Rattle.definition.specs.declared.Point.{Point}
 use Rattle.definition.proofs.Questions.{asks_now, asks_next, asks_whole, asks_edit}
 use Rattle.definition.specs.Session.{entries_of}
-use Rattle.fresh_outcome.specs.Solver.{Solver, reply_at, host_of, with_list, fresh, OnlyBandOf}
+use Rattle.fresh_outcome.specs.Solver.{Solver, reply_at, host_of, with_list, fresh, BandAlone}
 use Rattle.fresh_outcome.proofs.Edits.{edit_fresh, list_kept}
 use Rattle.fresh_outcome.proofs.Reports.{only_band}
 use Rattle.definition.specs.Session.{head, list_of, sizes_for, wants, right_length}
 use Rattle.definition.specs.declared.Step.{Step}
 use Rattle.definition.specs.declared.Step.TheVariants as Step
-use Rattle.demands.specs.Calls.{Call, reply, refuse_point, change, resume, Editing, At, first, rest_at, kept_by, finished_by, finished_at, Taking}
+use Rattle.demands.specs.Calls.{Call, reply, refuse_point, change, resume, Editing, At, first, rest_at, kept_by, finished_by, finished_at, report_by, Taking}
 use Rattle.demands.specs.Calls.{declines, takes, taking_reply, taking_refusal, taking_edit, stance, with_reply, with_edit, after_taken, unless_declined}
 use Rattle.demands.specs.Calls.{after_call, due, due_to}
 use Rattle.demands.specs.Book.{size_of, heard, Where, in_run, idle, in_edit, Book, is_report, opened, reports, ruled_reply, ruled_refusal, ruled_edit, ruled}
 use Rattle.demands.specs.Book.{stands_by, settled, edit_heard, run_heard, reply_heard, call_heard, booked, Question, about_of, question_in, Trail, replies_with}
-use Rattle.demands.specs.Book.{begun, followed, Replies, Comes, FromSolver, said_by, finished_from, Ends, Edits, standing_run, Holds}
+use Rattle.demands.specs.Book.{begun, followed, Replies, Comes, FromSolver, said_by, report_from, Ends, Edits, standingReport, Holds}
 
 -- ---- in general
 
@@ -56,9 +56,9 @@ end_of (refuses n i) = none
 same_end : {c d : Finished} → ends c ≡ ends d → c ≡ d
 same_end e = cc
 
-end_from : (f : Outcome Finished) → end_of f ≡ finished_from none f
-end_from (ends c) = refl
-end_from (refuses n i) = refl
+report-end : (f : Outcome Finished) → report_by (end_of f) ≡ report_from none f
+report-end (ends c) = refl
+report-end (refuses n i) = refl
 
 -- ---- one reply more
 
@@ -162,10 +162,10 @@ module _ (σ : Solver) (o : Opening) where
       record { hears = refl; finished = g.was_kept ∙ rw (g.reported, same); reported = λ b. ap is_report same }
 
   -- no question comes: what is said, and what stands, is the outcome
-  ends_so : (h : Host) (kept : Option Finished) (left : Run Finished) (f : Outcome Finished) (before : Option Finished)
-      → play h left ≡ f → kept ≡ before → heard o (head left) ≡ none → Ends f before (head left) (λ p. finished_by kept left ≡ p)
-  ends_so h kept (done c) f before e k z = record { says = ap said_by e; reads = ap (finished_from before) e }
-  ends_so h kept (refuse n i) f before e k z = record { says = ap said_by e; reads = k ∙ ap (finished_from before) e }
+  ends_so : (h : Host) (kept : Option Finished) (left : Run Finished) (f : Outcome Finished) (before : Option Report)
+      → play h left ≡ f → report_by kept ≡ before → heard o (head left) ≡ none → Ends f before (head left) (λ p. report_by (finished_by kept left) ≡ p)
+  ends_so h kept (done c) f before e k z = record { says = ap said_by e; reads = ap (report_from before) e }
+  ends_so h kept (refuse n i) f before e k z = record { says = ap said_by e; reads = k ∙ ap (report_from before) e }
   ends_so h kept (ask p w k) f before e l z = not_none z
 
   -- no question comes exactly where the play has put them all
@@ -174,17 +174,17 @@ module _ (σ : Solver) (o : Opening) where
   stops_so h (refuse m i) n all e = (λ z. omega arith, λ z. refl)
   stops_so h (ask p w k) n all e = (λ z. not_none z, λ z. absurd (omega arith))
 
-  -- an edit has ended: its finished run, the one that stands then, and what is new in its report
-  abbrev Ended : Edit → Option Finished → Option Finished → Step → Type 0
+  -- an edit has ended: its finished run, the report that stands then, and what is new in it
+  abbrev Ended : Edit → Option Finished → Option Report → Step → Type 0
   Ended e kept stands said =
-      (was : Finished) × (new : Finished) × (kept ≡ some was) × (stands ≡ some new)
-      × (said ≡ Step.Report → OnlyBandOf e was new) × ((n i : ℕ) → said ≡ Step.Refused n i → new ≡ was)
+      (was : Finished) × (new : Report) × (kept ≡ some was) × (stands ≡ some new)
+      × (said ≡ Step.Report → BandAlone e (report_of was) new) × ((n i : ℕ) → said ≡ Step.Refused n i → new ≡ report_of was)
 
   changes_so : (e : Edit) (kept : Option Finished) (left : Run Finished) (list : List Requested) (m : ℕ) → EditGoes σ o e kept left list m
-      → heard o (head left) ≡ none → Ended e kept (finished_by kept left) (head left)
+      → heard o (head left) ≡ none → Ended e kept (report_by (finished_by kept left)) (head left)
   changes_so e kept (done d) list m g z =
-      (g.was, d, g.was_kept, refl, λ r. only_band σ o list g.was d e g.before g.fits (sym g.plays), λ n i r. no_refusal r)
-  changes_so e kept (refuse n i) list m g z = (g.was, g.was, g.was_kept, g.was_kept, λ r. no_refusal (sym r), λ n i r. refl)
+      (g.was, report_of d, g.was_kept, refl, λ r. only_band σ o list g.was d e g.before g.fits (sym g.plays), λ n i r. no_refusal r)
+  changes_so e kept (refuse n i) list m g z = (g.was, report_of g.was, g.was_kept, ap report_by g.was_kept, λ r. no_refusal (sym r), λ n i r. refl)
   changes_so e kept (ask p w k) list m g z = not_none z
 
   -- ---- at the opening
@@ -206,14 +206,14 @@ module _ (σ : Solver) (o : Opening) where
 
   reads_so : (kept : Option Finished) (left : Run Finished) (list : List Requested) (asked : Option Question) (m : ℕ) (at : Where)
       → Stands σ o kept left list asked m at
-      → finished_by kept left ≡ cond (stands_by σ o at) (finished_from none (fresh σ o list)) none
-  reads_so kept left list asked m (in_run n) s = open_none n kept left s.1.hears
-  reads_so kept left list asked m idle s = s.finished ∙ by (reports σ o o.requested)
+      → report_by (finished_by kept left) ≡ cond (stands_by σ o at) (report_from none (fresh σ o list)) none
+  reads_so kept left list asked m (in_run n) s = ap report_by (open_none n kept left s.1.hears)
+  reads_so kept left list asked m idle s = ap report_by s.finished ∙ by (reports σ o o.requested)
     where
-      by : (b : Bool) → cond b (end_of (fresh σ o list)) none ≡ cond b (finished_from none (fresh σ o list)) none
-      by true = end_from (fresh σ o list)
+      by : (b : Bool) → report_by (cond b (end_of (fresh σ o list)) none) ≡ cond b (report_from none (fresh σ o list)) none
+      by true = report-end (fresh σ o list)
       by false = refl
-  reads_so kept left list asked m (in_edit n e) s = open_none n kept left s.1.hears
+  reads_so kept left list asked m (in_edit n e) s = ap report_by (open_none n kept left s.1.hears)
 
   reported_so : (kept : Option Finished) (left : Run Finished) (list : List Requested) (asked : Option Question) (m : ℕ) (at : Where)
       → Stands σ o kept left list asked m at
@@ -423,15 +423,15 @@ agrees_first σ o = record {
 }
 
 -- the report that stands by the definition stands by the book
-pub stands_by_lem : (σ : Solver) (o : Opening) (t : At) (u : Trail) → Agrees σ o t u → finished_at o t ≡ standing_run σ o u.book
+pub stands_by_lem : (σ : Solver) (o : Opening) (t : At) (u : Trail) → Agrees σ o t u → report_by (finished_at o t) ≡ standingReport σ o u.book
 stands_by_lem σ o t u a = reads_so σ o (kept_by t.last) (rest_at o t) u.book.list u.asked u.replies u.book.at a.is
 
 pub opened_stops : (σ : Solver) (o : Opening) → (heard o (head (whole o)) ≡ none) ↔ (0 ≡ questions (host_of σ o) (whole o))
 opened_stops σ o = stops_so σ o (host_of σ o) (whole o) 0 _ (first_goes σ o).counted
 
 pub agrees_opened : (σ : Solver) (o : Opening)
-    → (heard o (head (whole o)) ≡ none → Ends (fresh σ o o.requested) none (head (whole o)) (λ p. finished_at o first ≡ p))
-    × (finished_at o first ≡ standing_run σ o (opened o (heard o (head (whole o)))))
+    → (heard o (head (whole o)) ≡ none → Ends (fresh σ o o.requested) none (head (whole o)) (λ p. report_by (finished_at o first) ≡ p))
+    × (report_by (finished_at o first) ≡ standingReport σ o (opened o (heard o (head (whole o)))))
 agrees_opened σ o = (
   ends_so σ o (host_of σ o) none (whole o) (fresh σ o o.requested) none (first_goes σ o).plays refl,
   stands_by_lem σ o first (begun o (head (whole o)))
@@ -471,13 +471,13 @@ module _ (σ : Solver) (o : Opening) (t : At) (u : Trail) (a : Agrees σ o t u) 
       → P (after_call o t x) (due_to o t x)
   as_taken P e h = subst (λ (y : Taking). P (place_by y) (said_to y)) (sym (sym (agrees_ruled σ o t u a x) ∙ e)) h
 
-  abbrev EndsSo : Outcome Finished → Option Finished → At → Step → Type 0
-  EndsSo f before s said = heard o said ≡ none → Ends f before said (λ p. finished_at o s ≡ p)
+  abbrev EndsSo : Outcome Finished → Option Report → At → Step → Type 0
+  EndsSo f before s said = heard o said ≡ none → Ends f before said (λ p. report_by (finished_at o s) ≡ p)
 
   abbrev StopsSo : ℕ → At → Step → Type 0
   StopsSo all s said = (heard o said ≡ none) ↔ (replies_with u.replies x ≡ all)
 
-  holds : Holds σ o u x (due_to o t x) (λ p. finished_at o (after_call o t x) ≡ p)
+  holds : Holds σ o u x (due_to o t x) (λ p. report_by (finished_at o (after_call o t x)) ≡ p)
   holds =
       let list = u.book.list in
       let kept = kept_by (after_taken o t x).last in
@@ -496,14 +496,14 @@ module _ (σ : Solver) (o : Opening) (t : At) (u : Trail) (a : Agrees σ o t u) 
         run_ends = λ n i e.
             let g = run_taken σ o t u a x q e n i in
             as_taken (EndsSo (fresh σ o o.requested) none) e
-            (ends_so σ o (host_of σ o) kept left (fresh σ o o.requested) none g.plays g.none_kept);
+            (ends_so σ o (host_of σ o) kept left (fresh σ o o.requested) none g.plays (ap report_by g.none_kept));
         edit_ends = λ f i e.
             let g = edit_taken_lem σ o t u a x q e f i in
-            let was = finished_from none (fresh σ o list) in
+            let was = report_from none (fresh σ o list) in
             as_taken (EndsSo (fresh σ o (edited f list)) was) e
             (ends_so σ o (host_of σ (with_list o list)) kept left (fresh σ o (edited f list)) was g.plays
-            (g.was_kept ∙ ap (finished_from none) (sym g.before)));
-        stands = stands_by_lem σ o (after_call o t x) then next ∙ ap (standing_run σ o) (sym b);
+            (ap report_by g.was_kept ∙ ap (report_from none) (sym g.before)));
+        stands = stands_by_lem σ o (after_call o t x) then next ∙ ap (standingReport σ o) (sym b);
         reported = λ h.
             let is : stands_by σ o then.book.at ≡ true = ap (λ (c : Book). stands_by σ o c.at) (sym b) ∙ h in
             ap (λ (c : Book). reports σ o c.list) b
@@ -516,13 +516,13 @@ pub agrees_next : (σ : Solver) (o : Opening) (t : At) (u : Trail) → Agrees σ
 agrees_next σ o t u a x q = next σ o t u a x q
 
 pub agrees_holds : (σ : Solver) (o : Opening) (t : At) (u : Trail) → Agrees σ o t u → (x : Call) → FromSolver σ o u x
-    → Holds σ o u x (due_to o t x) (λ p. finished_at o (after_call o t x) ≡ p)
+    → Holds σ o u x (due_to o t x) (λ p. report_by (finished_at o (after_call o t x)) ≡ p)
 agrees_holds σ o t u a x q = holds σ o t u a x q
 
 -- where an edit ends by the book's rules, what is new in the report that stands
 pub agrees_changes : (σ : Solver) (o : Opening) (t : At) (u : Trail) → Agrees σ o t u → (x : Call) → FromSolver σ o u x
     → (e : Edit) → Edits u.book x e → ruled σ o u.book x ≡ takes → heard o (due_to o t x) ≡ none
-    → Ended σ o e (kept_by (after_call o t x).last) (finished_at o (after_call o t x)) (due_to o t x)
+    → Ended σ o e (kept_by (after_call o t x).last) (report_by (finished_at o (after_call o t x))) (due_to o t x)
 agrees_changes σ o t u a x q e i r =
-    as_taken σ o t u a x q (λ s said. heard o said ≡ none → Ended σ o e (kept_by s.last) (finished_at o s) said) r
+    as_taken σ o t u a x q (λ s said. heard o said ≡ none → Ended σ o e (kept_by s.last) (report_by (finished_at o s)) said) r
     (changes_so σ o e (kept_by (after_taken o t x).last) (rest_at o (after_taken o t x)) u.book.list _ (edit_taken_lem σ o t u a x q r e i))

@@ -3,7 +3,6 @@ use Prim.Native.Nat.{ℕ, zero, suc, ◌≤◌, ◌<◌}
 use mathlib.Core.Path.{◌≡◌, refl, sym, ap, ◌∙◌, subst}
 use mathlib.Core.Bool.{Bool, true, false, cond}
 use mathlib.Core.List.{List, [], ◌∷◌, ◌++◌, map}
-use mathlib.Core.Option
 use mathlib.Core.Option.{Option, none, some}
 use mathlib.Core.Logic.{◌↔◌}
 use native.Mathlib.Omega.{arith}
@@ -16,8 +15,7 @@ use Rattle.definition.specs.Run.{Run, done, refuse, ask, bind, Reply, refused, e
 use Rattle.definition.specs.Host.{questions}
 use Rattle.definition.specs.Likelihood as likelihood
 use Rattle.definition.specs.Fit as fit
-use Rattle.definition.specs.Summary.{Finished, Report}
-use Rattle.definition.specs.Coverage.{Table, rows_under, band_by, CoveredReport}
+use Rattle.definition.specs.Summary.{Finished, Report, report_of}
 use Rattle.definition.specs.Whole.{Edit, put_in, take_out, exchange, placed, edit, whole, run, checked_measured, checked_requested}
 use Rattle.definition.specs.Laws.{Asks, put}
 use Rattle.definition.specs.declared.Point.{Point}
@@ -31,20 +29,19 @@ use Rattle.definition.specs.declared.Step.TheVariants as Step
 use Rattle.definition.specs.declared.Distances.{Distances}
 use Rattle.definition.specs.declared.Distances.TheVariants as Distances
 use Rattle.definition.specs.Session as meaning
-use Rattle.report.specs.Reading.{Shows, place_in, baseline_results, report_in}
-use Rattle.covered_report.specs.Reading.{covered_in, ShowsUnder}
-use Rattle.covered_report.proofs.Laws.{results_under, baseline_results_under, bands_under}
+use Rattle.report.specs.Reading.{Shows, place_in, baseline_results}
+use Rattle.report.specs.Reading.{report_in}
 use Rattle.editing.specs.Meaning.{state, seen}
 use Rattle.definition.specs.Session.{Sized}
 use Rattle.editing.proofs.Contracts.{Stands, Declines, entries_taken, refusal_taken, edit_taken, Opened, Replied, PointRefused, Edited}
 use Rattle.editing.specs.declared.Session.{Session}
 use Rattle.editing.specs.declared.Answer.{Answer}
-use Rattle.demands.specs.Calls.{Call, reply, refuse_point, change, resume, Editing, At, first, rest_by, rest_at, kept_by, finished_by, finished_at, report_by, covered_by}
+use Rattle.demands.specs.Calls.{Call, reply, refuse_point, change, resume, Editing, At, first, rest_by, rest_at, kept_by, finished_by, finished_at, report_by}
 use Rattle.demands.specs.Calls.{Taking, declines, takes, taking_reply, taking_refusal, taking_edit, stance, with_reply, with_edit, after_taken, unless_declined}
 use Rattle.demands.specs.Calls.{after_call, due, due_to}
-use Rattle.demands.specs.Book.{heard, opened, ruled, Ends, Edits, standing_run as standsWith, Holds, Trail, begun, followed, FromSolver}
+use Rattle.demands.specs.Book.{heard, opened, ruled, Ends, Edits, standingReport as standsWith, Holds, Trail, begun, followed, FromSolver}
 use Rattle.demands.specs.Demands as stated
-use Rattle.demands.specs.Demands.{Made, Meets, Chained, Throughout, ReadsPlain, ReadsUnder, ReadsAs, checked, OpensProperly, counted_said, most_of, EndsProperly, Demand1}
+use Rattle.demands.specs.Demands.{Made, Meets, Chained, Throughout, ReadsAs, checked, OpensProperly, counted_said, most_of, EndsProperly, Demand1}
 use Rattle.demands.specs.Demands.{OpensAsDefined, AsDefined, Demand2, Changes, edited_from, next_trail, AllFrom, OpensFresh, EndsFresh, before_edit, Along}
 use Rattle.demands.specs.Demands.{Demand3}
 use Rattle.demands.specs.Example as example
@@ -125,42 +122,24 @@ edit_asks o t x l mv bc list q =
 
 -- ---- the report
 
-reads_plain : (s : Session) (p : Option Report) → report_in (state s) ≡ p → ReadsPlain s p
-reads_plain s p same = record {
+reads_as : (s : Session) (p : Option Report) → report_in (state s) ≡ p → ReadsAs s p
+reads_as s p same = record {
   heads = λ r d. subst (Shows r) same d.is;
   results = λ i r d. d.is ∙ ap (place_in (λ q. q.observations) i) same;
   baseline_results = λ i r d. d.is ∙ ap (place_in baseline_results i) same;
   bands = λ i r d. d.is ∙ ap (place_in (λ q. q.bands) i) same;
 }
 
--- under a table the lists have the places that they have without one, each interval by its rows
-reads_under : (t : Table) (s : Session) (p : Option CoveredReport) → covered_in t (state s) ≡ p → ReadsUnder t s p
-reads_under t s p same = record {
-  heads = λ r d. subst (ShowsUnder t r) same d.is;
-  results = λ i r d. d.is ∙ results_under t i (state s) ∙ ap (place_in (λ q. q.observations) i) same;
-  baseline_results = λ i r d. d.is ∙ baseline_results_under t i (state s) ∙ ap (place_in baseline_results i) same;
-  bands = λ i r d. ap (Option.map (band_by (rows_under t))) d.is ∙ bands_under t i (state s) ∙ ap (place_in (λ q. q.bands) i) same;
-}
-
-report_after : (kept : Option Finished) (t : Run Finished) → report_in (meaning.after kept t) ≡ report_by (finished_by kept t)
+pub report_after : (kept : Option Finished) (t : Run Finished) → report_in (meaning.after kept t) ≡ report_by (finished_by kept t)
 report_after kept (done c) = refl
 report_after none (refuse n i) = refl
 report_after (some c) (refuse n i) = refl
 report_after kept (ask p w k) = refl
 
-pub covered_after : (t : Table) (kept : Option Finished) (r : Run Finished) → covered_in t (meaning.after kept r) ≡ covered_by t (finished_by kept r)
-covered_after t kept (done c) = refl
-covered_after t none (refuse n i) = refl
-covered_after t (some c) (refuse n i) = refl
-covered_after t kept (ask p w k) = refl
-
 -- ---- the invariant
 
-inv_reads : (o : Opening) (t : At) (s : Session) → Inv o t s → ReadsAs s (finished_at o t)
-inv_reads o t s h = record {
-  plain = reads_plain s (report_by (finished_at o t)) (ap report_in h.leads ∙ report_after (kept_by t.last) (rest_at o t));
-  under = λ x. reads_under x s (covered_by x (finished_at o t)) (ap (covered_in x) h.leads ∙ covered_after x (kept_by t.last) (rest_at o t));
-}
+inv_reads : (o : Opening) (t : At) (s : Session) → Inv o t s → ReadsAs s (report_by (finished_at o t))
+inv_reads o t s h = reads_as s (report_by (finished_at o t)) (ap report_in h.leads ∙ report_after (kept_by t.last) (rest_at o t))
 
 news_edit : (c : Finished) (e : Edit) → Asks IsNew 5 (edit c e)
 news_edit c e = asks_edit c e (every_new IsNew (λ p x. tt) e)
@@ -199,27 +178,27 @@ module _ (o : Opening) where
 
   -- an edit that is let through is of the finished run that stands
   edits_of : (t : At) (s : Session) → Inv o t s → (x : Call) (y : Editing) → stance o t x ≡ takes → x ≡ change y.made → (after_call o t x).last ≡ some y
-      → ReadsAs s (some y.of)
+      → ReadsAs s (some (report_of y.of))
   edits_of t s h x y st ex el =
       by (finished_at o t) refl (subst (λ (z : Call). stance o t z ≡ takes) ex st) (subst (λ (z : Call). (after_call o t z).last ≡ some y) ex el)
     where
       by : (f : Option Finished) → finished_at o t ≡ f → taking_edit f y.made ≡ takes
           → (unless_declined (taking_edit f y.made) t (with_edit t f y.made)).last ≡ some y
-          → ReadsAs s (some y.of)
+          → ReadsAs s (some (report_of y.of))
       by none e st el = absurd (apart (sym st))
       by (some c) e st el =
           let q : some (record { of = c; made = y.made; replies = [] }) ≡ some y = sym
           (ap (λ (z : Taking). (unless_declined z t (with_edit t (some c) y.made)).last) st) ∙ el in
           let one : c ≡ y.of = ap (λ (z : Option Editing). of_or c z) q in
-          subst (λ (f : Finished). ReadsAs s (some f)) one (subst (λ (f : Option Finished). ReadsAs s f) e (inv_reads o t s h))
+          subst (λ (f : Finished). ReadsAs s (some (report_of f))) one (subst (λ (f : Option Finished). ReadsAs s (report_by f)) e (inv_reads o t s h))
 
   module _ (t : At) (s : Session) (h : Inv o t s) where
     -- a refused edit restores the report
-    restores : (v : At) (r : Session) → Inv o v r → (x : Editing) (n i : ℕ) → v.last ≡ some x → rest_at o v ≡ refuse n i → ReadsAs r (some x.of)
+    restores : (v : At) (r : Session) → Inv o v r → (x : Editing) (n i : ℕ) → v.last ≡ some x → rest_at o v ≡ refuse n i → ReadsAs r (some (report_of x.of))
     restores v r g x n i el er =
-        subst (λ (f : Option Finished). ReadsAs r f)
-        (ap (λ (l : Option Editing). finished_by (kept_by l) (rest_at o v)) el
-        ∙ ap (λ (u : Run Finished). finished_by (some x.of) u) er) (inv_reads o v r g)
+        subst (λ (p : Option Report). ReadsAs r p)
+        (ap (λ (l : Option Editing). report_by (finished_by (kept_by l) (rest_at o v))) el
+        ∙ ap (λ (u : Run Finished). report_by (finished_by (some x.of) u)) er) (inv_reads o v r g)
 
     -- declined: the answer is the number, and the session as it was
     no : (c : Made) (n : ℕ) → stance o t c.call ≡ declines n → Declines c.answer s n → Good o t s c
@@ -461,11 +440,11 @@ demand_2 o a m cs ch = (opens_as_defined o a m, walk_2 o first a cs (begins o a 
 
 module _ (σ : Solver) (o : Opening) where
   -- what holds of what is due holds of what was said, read as the session shows it
-  reads_end : (f : _) (before : Option Finished) (x y : Step) (s : Session) (r : Option Finished) → y ≡ x → ReadsAs s r → Ends f before x (λ p. r ≡ p)
+  reads_end : (f : _) (before : Option Report) (x y : Step) (s : Session) (r : Option Report) → y ≡ x → ReadsAs s r → Ends f before x (λ p. r ≡ p)
       → Ends f before y (ReadsAs s)
   reads_end f before x y s r e d h = record { says = e ∙ h.says; reads = subst (ReadsAs s) h.reads d }
 
-  holds_said : (u : Trail) (c : Made) (x : Step) (r : Option Finished) → c.answer.step ≡ x → ReadsAs c.answer.session r
+  holds_said : (u : Trail) (c : Made) (x : Step) (r : Option Report) → c.answer.step ≡ x → ReadsAs c.answer.session r
       → Holds σ o u c.call x (λ p. r ≡ p)
       → Holds σ o u c.call c.answer.step (ReadsAs c.answer.session)
   holds_said u c x r e d h =
@@ -482,21 +461,21 @@ module _ (σ : Solver) (o : Opening) where
 
   -- the session that the last edit was made on reads as the finished run that the edit is of
   abbrev Before : At → Session → Type 0
-  Before t old = (x : Editing) → t.last ≡ some x → ReadsAs old (some x.of)
+  Before t old = (x : Editing) → t.last ≡ some x → ReadsAs old (some (report_of x.of))
 
   reply_before : (rs : List Reply) (last : Option Editing) (r : Reply) (old : Session) → Before (record { run = rs; last = last }) old
       → Before (with_reply rs last r) old
   reply_before rs none r old b x e = let z : ◌≡◌ {A = ℕ} 0 1 = cc in absurd (omega arith)
   reply_before rs (some y) r old b x e =
       let same : y.of ≡ x.of = ap (λ (z : Option Editing). of_or y.of z) e in
-      subst (λ (c : Finished). ReadsAs old (some c)) same (b y refl)
+      subst (λ (c : Finished). ReadsAs old (some (report_of c))) same (b y refl)
 
   -- an edit is made on the session as it is
   edit_before : (t : At) (s : Session) → Inv o t s → (f : Edit) (q : Option Finished) → finished_at o t ≡ q → taking_edit q f ≡ takes → Before (with_edit t q f) s
   edit_before t s h f none e st = absurd (apart (sym st))
   edit_before t s h f (some c) e st = λ x l.
       let same : c ≡ x.of = ap (λ (z : Option Editing). of_or c z) l in
-      subst (λ (d : Finished). ReadsAs s (some d)) same (subst (λ (z : Option Finished). ReadsAs s z) e (inv_reads o t s h))
+      subst (λ (d : Finished). ReadsAs s (some (report_of d))) same (subst (λ (z : Option Finished). ReadsAs s (report_by z)) e (inv_reads o t s h))
 
   taken_before : (t : At) (old s : Session) → Inv o t s → Before t old → (x : Call) → stance o t x ≡ takes → Before (after_taken o t x) (edited_from old s x)
   taken_before t old s h b (reply ds ms) e = reply_before t.run t.last _ old b
@@ -512,10 +491,10 @@ module _ (σ : Solver) (o : Opening) where
       by (declines n) e = b
       by takes e = taken_before t old s h b x e
 
-  kept_before : (s : Session) (was : Finished) (l : Option Editing) → ((x : Editing) → l ≡ some x → ReadsAs s (some x.of)) → kept_by l ≡ some was
-      → ReadsAs s (some was)
+  kept_before : (s : Session) (was : Finished) (l : Option Editing) → ((x : Editing) → l ≡ some x → ReadsAs s (some (report_of x.of))) → kept_by l ≡ some was
+      → ReadsAs s (some (report_of was))
   kept_before s was none b e = let z : ◌≡◌ {A = ℕ} 0 1 = cc in absurd (omega arith)
-  kept_before s was (some x) b e = let same : x.of ≡ was = cc in subst (λ (c : Finished). ReadsAs s (some c)) same (b x refl)
+  kept_before s was (some x) b e = let same : x.of ≡ was = cc in subst (λ (c : Finished). ReadsAs s (some (report_of c))) same (b x refl)
 
   walk_3 : (t : At) (u : Trail) (old : Session) (a : Answer) (cs : List Made) → Inv o t a.session → Agrees σ o t u → Before t old → Chained a cs
       → AllFrom σ o u cs
@@ -527,12 +506,12 @@ module _ (σ : Solver) (o : Opening) where
       let now = next_before t u old a.session c.call h g b in (
         record {
           declined = λ n e. k.proper.declined n (sym (agrees_ruled σ o t u g c.call) ∙ e);
-          holds = holds_said u c (due_to o t c.call) (finished_at o (after_call o t c.call)) says k.defined.reads
+          holds = holds_said u c (due_to o t c.call) (report_by (finished_at o (after_call o t c.call))) says k.defined.reads
               (agrees_holds σ o t u g c.call f.0);
           changes = λ e i r z.
               let x = agrees_changes σ o t u g c.call f.0 e i r (ap (heard o) (sym says) ∙ z) in
               record {
-                old = x.0;
+                old = report_of x.0;
                 new = x.1;
                 reads_old = kept_before (before_edit σ o u old a.session c.call) x.0 (after_call o t c.call).last now x.2;
                 reads_new = subst (ReadsAs c.answer.session) x.3 k.defined.reads;

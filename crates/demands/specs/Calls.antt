@@ -4,7 +4,6 @@ use Rattle.std.proofs.Math.Option.{Option, none, some}
 use Rattle.definition.specs.Request.{Opening}
 use Rattle.definition.specs.Run.{Run, done, refuse, ask, Reply, refused, entries}
 use Rattle.definition.specs.Summary.{Finished, Report, report_of}
-use Rattle.definition.specs.Coverage.{Table, CoveredReport, report_under}
 use Rattle.definition.specs.Whole.{whole, Edit, placed, edit}
 use Rattle.definition.specs.Session.{entries_of}
 use Rattle.definition.specs.Session.{head, Sizes, sizes_for, wants, right_length}
@@ -66,11 +65,6 @@ finished_at o t = finished_by (kept_by t.last) (rest_at o t)
 abbrev pub report_by : Option Finished → Option Report
 report_by none = none
 report_by (some c) = some (report_of c)
-
--- its report under a table
-abbrev pub covered_by : Table → Option Finished → Option CoveredReport
-covered_by t none = none
-covered_by t (some c) = some (report_under t c)
 
 -- ---- a call
 

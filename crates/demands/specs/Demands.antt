@@ -1,15 +1,14 @@
 -- The three demands over any list of calls on a session just opened, declined ones included. Stated over what a host sees: the answers, and what the calls that
 -- read a session give. Theorems `demand_1`, `demand_2` and `demand_3` stand in proofs/Demands.antt.
 use Rattle.std.specs.Prelude.{ℕ, suc, ◌≤◌, ◌<◌, ◌≡◌, List, [], ◌∷◌, ◌↔◌, length, Float}
-use Rattle.std.proofs.Math.Option.{Option, none, some, map}
+use Rattle.std.proofs.Math.Option.{Option, none, some}
 use Rattle.definition.specs.Request.{Opening}
 use Rattle.definition.specs.Run.{Run, done, refuse, bind}
 use Rattle.definition.specs.Host.{questions}
-use Rattle.definition.specs.Summary.{Finished, Report}
+use Rattle.definition.specs.Summary.{Report, report_of}
 use Rattle.definition.specs.Whole.{Edit, put_in, take_out, exchange, whole, checked_measured, checked_requested}
-use Rattle.definition.specs.Coverage.{Table, rows_under, band_by, CoveredReport}
 use Rattle.definition.specs.Laws.{put}
-use Rattle.fresh_outcome.specs.Solver.{Solver, host_of, fresh, OnlyBandOf}
+use Rattle.fresh_outcome.specs.Solver.{Solver, host_of, fresh, BandAlone}
 use Rattle.report.specs.Places.{result_says, band_at_says}
 use Rattle.report.specs.declared.ResultAt.{ResultAt}
 use Rattle.report.specs.declared.BandAt.{BandAt}
@@ -23,12 +22,11 @@ use Rattle.report.specs.declared.Shown.{Shown}
 use Rattle.editing.specs.Meaning.{state, seen}
 use Rattle.definition.specs.Session.{Opened, Replied, PointRefused, Edited}
 use Rattle.report.specs.Reading.{ReportRead, ResultRead, BaselineResultRead, BandRead}
-use Rattle.covered_report.specs.Reading.{ShowsUnder, ReportReadUnder}
 use Rattle.editing.specs.declared.Session.{Session}
 use Rattle.editing.specs.declared.Answer.{Answer}
-use Rattle.demands.specs.Calls.{Call, reply, refuse_point, change, Editing, At, first, rest_at, finished_at, report_by, covered_by, declines, takes, stance}
+use Rattle.demands.specs.Calls.{Call, reply, refuse_point, change, Editing, At, first, rest_at, finished_at, report_by, declines, takes, stance}
 use Rattle.demands.specs.Calls.{unless_declined, after_call, due_to}
-use Rattle.demands.specs.Book.{heard, opened, ruled, Ends, Edits, standing_run, Holds, Trail, begun, followed, FromSolver}
+use Rattle.demands.specs.Book.{heard, opened, ruled, Ends, Edits, standingReport, Holds, Trail, begun, followed, FromSolver}
 
 -- ---- the calls of a host
 
@@ -57,24 +55,12 @@ abbrev pub Whatever : (Opening → Answer → Type 0) → (Opening → At → Se
 Whatever First P = (o : Opening) (a : Answer) → Opened seen o a.step a.session → (cs : List Made) → Chained a cs
     → First o a × Throughout (P o) o first a.session cs
 
--- what the calls that read this session give without a table is this report, in its head and in each place of its lists, or that there is none
-pub record ReadsPlain (s : Session) (p : Option Report) : Type 0 where
+-- what the calls that read this session give is this report, in its head and in each place of its lists, or that there is none
+pub record ReadsAs (s : Session) (p : Option Report) : Type 0 where
   pub heads : (r : Shown) → ReportRead (state s) r → Shows r p
   pub results : (i : ℕ) (r : ResultAt) → ResultRead (state s) i r → result_says r ≡ place_in (λ q. q.observations) i p
   pub baseline_results : (i : ℕ) (r : ResultAt) → BaselineResultRead (state s) i r → result_says r ≡ place_in baseline_results i p
   pub bands : (i : ℕ) (r : BandAt) → BandRead (state s) i r → band_at_says r ≡ place_in (λ q. q.bands) i p
-
--- under a table it is this report, in which each interval that they give stands by its rows
-pub record ReadsUnder (t : Table) (s : Session) (p : Option CoveredReport) : Type 0 where
-  pub heads : (r : Shown) → ReportReadUnder t (state s) r → ShowsUnder t r p
-  pub results : (i : ℕ) (r : ResultAt) → ResultRead (state s) i r → result_says r ≡ place_in (λ q. q.observations) i p
-  pub baseline_results : (i : ℕ) (r : ResultAt) → BaselineResultRead (state s) i r → result_says r ≡ place_in baseline_results i p
-  pub bands : (i : ℕ) (r : BandAt) → BandRead (state s) i r → map (band_by (rows_under t)) (band_at_says r) ≡ place_in (λ q. q.bands) i p
-
--- what is read is the report of this finished run, without a table and under every one; or that there is none
-pub record ReadsAs (s : Session) (c : Option Finished) : Type 0 where
-  pub plain : ReadsPlain s (report_by c)
-  pub under : (t : Table) → ReadsUnder t s (covered_by t c)
 
 -- what the call that reads the count of questions gives
 abbrev pub count : Session → ℕ
@@ -114,9 +100,9 @@ pub record EndsProperly (o : Opening) (t : At) (s : Session) (c : Made) : Type 0
       → length x.replies < most_of x.made
   -- an edit that is let through is of the report that stands, and one that ends in a refusal restores it
   pub edits : (x : Editing) → stance o t c.call ≡ takes → c.call ≡ change x.made → (after_call o t c.call).last ≡ some x
-      → ReadsAs s (some x.of)
+      → ReadsAs s (some (report_of x.of))
   pub restored : (x : Editing) (n i : ℕ) → (after_call o t c.call).last ≡ some x → rest_at o (after_call o t c.call) ≡ refuse n i
-      → ReadsAs c.answer.session (some x.of)
+      → ReadsAs c.answer.session (some (report_of x.of))
 
 -- Theorem `demand_1`.
 abbrev pub Demand1 : Type 0
@@ -127,13 +113,13 @@ Demand1 = Whatever OpensProperly EndsProperly
 pub record OpensAsDefined (o : Opening) (a : Answer) : Type 0 where
   pub says : a.step ≡ head (whole o)
   pub counts : count a.session ≡ put (whole o) []
-  pub reads : ReadsAs a.session (finished_at o first)
+  pub reads : ReadsAs a.session (report_by (finished_at o first))
 
 -- what is said, the number of questions that the run has put, and the report
 pub record AsDefined (o : Opening) (t : At) (s : Session) (c : Made) : Type 0 where
   pub says : c.answer.step ≡ due_to o t c.call
   pub counts : count c.answer.session ≡ put (whole o) (after_call o t c.call).run
-  pub reads : ReadsAs c.answer.session (finished_at o (after_call o t c.call))
+  pub reads : ReadsAs c.answer.session (report_by (finished_at o (after_call o t c.call)))
 
 -- Theorem `demand_2`.
 abbrev pub Demand2 : Type 0
@@ -143,12 +129,12 @@ Demand2 = Whatever OpensAsDefined AsDefined
 
 -- an edit has ended, and this was said: what is read on the session that it was made on, and what is read then
 pub record Changes (e : Edit) (before : Session) (said : Step) (after_call : Session) : Type 0 where
-  pub old : Finished
-  pub new : Finished
+  pub old : Report
+  pub new : Report
   pub reads_old : ReadsAs before (some old)
   pub reads_new : ReadsAs after_call (some new)
-  -- only the band concerned and the outside-domain warning change, without a table and under every one
-  pub made : said ≡ Step.Report → OnlyBandOf e old new
+  -- only the band concerned and the outside-domain warning change
+  pub made : said ≡ Step.Report → BandAlone e old new
   -- a refused edit changes nothing
   pub refused : (n i : ℕ) → said ≡ Step.Refused n i → new ≡ old
 
@@ -172,7 +158,7 @@ module _ (σ : Solver) (o : Opening) where
   pub record OpensFresh (a : Answer) : Type 0 where
     pub stops : (heard o a.step ≡ none) ↔ (0 ≡ questions (host_of σ o) (whole o))
     pub ends : heard o a.step ≡ none → Ends (fresh σ o o.requested) none a.step (ReadsAs a.session)
-    pub stands : ReadsAs a.session (standing_run σ o (opened o (heard o a.step)))
+    pub stands : ReadsAs a.session (standingReport σ o (opened o (heard o a.step)))
 
   pub record EndsFresh (u : Trail) (before s : Session) (c : Made) : Type 0 where
     -- where the book's rules place 8, 9, 14 and 15, they come and change nothing

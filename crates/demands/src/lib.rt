@@ -7,12 +7,9 @@ ghost use Rattle.opening.specs.Opening.{opening_of};
 ghost use Rattle.editing.specs.Meaning.{state, seen};
 ghost use Rattle.definition.specs.Session.{Opened};
 ghost use Rattle.report.specs.Reading.{ReportRead, ResultRead, BaselineResultRead, BandRead};
-ghost use Rattle.coverage.specs.Table.{rows_in};
-ghost use Rattle.covered_report.specs.Reading.{ReportReadUnder};
 ghost use Rattle.demands.specs.Calls as Call;
 ghost use Rattle.demands.specs.Demands.{Meets, count};
 
-use coverage::Table;
 use definition::{Number, Point, TruingPriorsV1};
 use editing::{Answer, Session};
 use report::{BandAt, ResultAt, Shown};
@@ -78,12 +75,6 @@ pub fn report(s: Session) -> Shown
     ensures { ReportRead (state s) result }
 {
     editing::report(s)
-}
-
-pub fn report_under(s: Session, table: Table) -> Shown
-    ensures { ReportReadUnder (rows_in table) (state s) result }
-{
-    covered_report::report(s, table)
 }
 
 pub fn observation_result(s: Session, i: usize) -> ResultAt

@@ -16,7 +16,7 @@ use warnings::Warnings;
 // A page has fewer bytes than there are here.
 fn say_page(s: Session) {
     let mut out = [0u8; 16384];
-    let end = page::put_page(&mut out, 0, s, coverage::single());
+    let end = page::put_page(&mut out, 0, s);
     say::first(&out, end);
 }
 

@@ -93,8 +93,8 @@ pub fn say_reply(drops: &[f64], missing: &[bool]) {
 
 // A question, the report or a refusal. The report has fewer bytes than there are here.
 pub fn say_answer(a: Answer) {
-    let mut out = [0u8; 131072];
-    let at = answer_text::put_answer(&mut out, 0, a, coverage::single());
+    let mut out = [0u8; 32768];
+    let at = answer_text::put_answer(&mut out, 0, a);
     let end = report_text::put_byte(&mut out, at, 10);
     say::first(&out, end);
 }

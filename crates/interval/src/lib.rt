@@ -1,6 +1,6 @@
 // A two-sided interval from a Gaussian's variance.
 ghost use Rattle.std.specs.Prelude.{◌≡◌};
-ghost use Rattle.interval.specs.Interval.{says, level95, factor95, interval_of, at_level};
+ghost use Rattle.interval.specs.Interval.{says, level95, factor95, interval_of};
 
 #[derive(Drop)]
 pub struct GaussianIntervalV1 {
@@ -44,19 +44,5 @@ impl GaussianIntervalV1 {
             upper: estimate + half_width,
             probability: GaussianIntervalV1::LEVEL,
         })
-    }
-
-    // The same estimate and standard deviation at another level.
-    pub fn at(self, level: f64, factor: f64) -> GaussianIntervalV1
-        ensures { result ≡ at_level level factor self }
-    {
-        let half_width = factor * self.standard_deviation;
-        GaussianIntervalV1 {
-            estimate: self.estimate,
-            standard_deviation: self.standard_deviation,
-            lower: self.estimate - half_width,
-            upper: self.estimate + half_width,
-            probability: level,
-        }
     }
 }

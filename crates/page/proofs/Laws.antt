@@ -7,12 +7,11 @@ use mathlib.Core.Option.{Option, none, some}
 use native.Mathlib.Numerals.{add-one}
 use native.Mathlib.Omega.{arith}
 use lib.ListN.{length, take}
-use Rattle.definition.specs.Coverage.{Table, rows_under, approximation_by, CoveredBand, CoveredReport}
+use Rattle.definition.specs.Summary.{Band, Report}
 use Rattle.report.specs.Places.{nth}
-use Rattle.report.specs.Report.{Results, seen_with}
+use Rattle.report.specs.Report.{Results, seen_of}
 use Rattle.report.specs.declared.UncertaintyTruingReportV1.{UncertaintyTruingReportV1}
-use Rattle.report.specs.Reading.{of_baseline, HeadWith}
-use Rattle.covered_report.specs.Reading.{covered_in, ShowsUnder}
+use Rattle.report.specs.Reading.{of_baseline, HeadOf, Shows, report_in}
 use Rattle.report.specs.declared.Shown.{Shown}
 use Rattle.report.specs.declared.Shown.TheVariants as Shown
 use Rattle.warnings.specs.Warnings.{codes_of}
@@ -21,8 +20,7 @@ use Rattle.editing.specs.declared.Session.{Session}
 use Rattle.report_text.specs.Writing.{Text, Writes}
 use Rattle.report_text.proofs.Lengths.{Bounded}
 use Rattle.answer_text.specs.Answers.{results_in, bands_in}
-use Rattle.report_text.proofs.Laws.{taken}
-use Rattle.answer_text.proofs.Laws.{results_are, bands_are}
+use Rattle.answer_text.proofs.Laws.{taken, results_are, bands_are}
 use Rattle.answer_text.proofs.Fits.{shown_bounded}
 use Rattle.page_text.specs.Page.{shot_line, band_line, warning_line, joined_lines, page_text, lines_in, page_in}
 use Rattle.page_text.specs.Pieces.{head_text}
@@ -43,56 +41,51 @@ next_line_lem f l i a e =
 
 -- ---- the page
 
-module _
-    (t : Table) (s : Session) (h : UncertaintyTruingReportV1) (p : CoveredReport) (e : covered_in t (state s) ≡ some p)
-    (d : HeadWith (approximation_by (rows_under t)) h p) where
-  abbrev shown : Results → List CoveredBand → Text
-  shown results bands = page_text (seen_with (approximation_by (rows_under t)) h results (of_baseline p.baseline) bands)
-
+module _ (s : Session) (h : UncertaintyTruingReportV1) (p : Report) (e : report_in (state s) ≡ some p) (d : HeadOf h p) where
   -- the parts as they are written are the report's page
   pub whole_page :
-      head_text t h
+      head_text h
       ++ (joined_lines (map shot_line (take h.observations (results_in false s)))
-      ++ (joined_lines (map band_line (take h.predictive_bands (bands_in t s))) ++ joined_lines (map warning_line (codes_of h.warnings))))
+      ++ (joined_lines (map band_line (take h.predictive_bands (bands_in s))) ++ joined_lines (map warning_line (codes_of h.warnings))))
       ≡ page_text p
   whole_page =
-      page_parts t h (take h.observations (results_in false s)) (of_baseline p.baseline) (take h.predictive_bands (bands_in t s))
-      ∙ ap (λ (l : Results). shown l (take h.predictive_bands (bands_in t s))) (results_are t s h p e d)
-      ∙ ap (λ (l : List CoveredBand). shown p.observations l) (bands_are t s h p e d)
+      page_parts h (take h.observations (results_in false s)) (of_baseline p.baseline) (take h.predictive_bands (bands_in s))
+      ∙ ap (λ (l : Results). page_text (seen_of h l (of_baseline p.baseline) (take h.predictive_bands (bands_in s)))) (results_are s h p e d)
+      ∙ ap (λ (l : List Band). page_text (seen_of h p.observations (of_baseline p.baseline) l)) (bands_are s h p e d)
       ∙ ap page_text (sym d.seen)
 
 -- ---- whether a report stands
 
 -- its page, and how many lines it has
-module _ (t : Table) (h : UncertaintyTruingReportV1) where
-  pub one_stands : (p : Option CoveredReport) → ShowsUnder t (Shown.Given h) p → {out : Text} {at : ℕ} {after : Text} {next : ℕ}
-      → ((q : CoveredReport) → p ≡ some q → HeadWith (approximation_by (rows_under t)) h q → Writes out at after next (page_text q)) → Writes out at after next (page_in p)
+module _ (h : UncertaintyTruingReportV1) where
+  pub one_stands : (p : Option Report) → Shows (Shown.Given h) p → {out : Text} {at : ℕ} {after : Text} {next : ℕ}
+      → ((q : Report) → p ≡ some q → HeadOf h q → Writes out at after next (page_text q)) → Writes out at after next (page_in p)
   unfolding page_text
   one_stands none d w = absurd d
   one_stands (some p) d w = w p refl d
 
   -- its counts are within the limits, so that their sum is a number
-  pub counts_within : (p : Option CoveredReport) → ShowsUnder t (Shown.Given h) p → ((q : CoveredReport) → p ≡ some q → Bounded q)
+  pub counts_within : (p : Option Report) → Shows (Shown.Given h) p → ((q : Report) → p ≡ some q → Bounded q)
       → (h.observations ≤ 64) × (h.predictive_bands ≤ 64) × (length (codes_of h.warnings) ≤ 10)
   counts_within none d b = absurd d
   counts_within (some p) d b =
       let within = b p refl in
-      let found : length p.warnings ≡ length (codes_of h.warnings) = ap (λ (q : CoveredReport). length q.warnings) d.seen in
+      let found : length p.warnings ≡ length (codes_of h.warnings) = ap (λ (q : Report). length q.warnings) d.seen in
       (omega (arith, d.results, within.results), omega (arith, d.bands, within.bands), omega (arith, within.warnings))
 
-  pub lines_are : (p : Option CoveredReport) → ShowsUnder t (Shown.Given h) p
+  pub lines_are : (p : Option Report) → Shows (Shown.Given h) p
       → length (lines_in p) ≡ 3 + h.observations + h.predictive_bands + length (codes_of h.warnings)
   lines_are none d = absurd d
   lines_are (some p) d =
-      let found : length p.warnings ≡ length (codes_of h.warnings) = ap (λ (q : CoveredReport). length q.warnings) d.seen in
+      let found : length p.warnings ≡ length (codes_of h.warnings) = ap (λ (q : Report). length q.warnings) d.seen in
       omega (arith, lines_count p, d.results, d.bands)
 
 -- ---- how long a page is
 
 -- 65 bytes for each of three lines, of 64 observations, of 64 bands and of 10 warnings
-shown_length : (p : Option CoveredReport) → ((q : CoveredReport) → p ≡ some q → Bounded q) → length (page_in p) ≤ 9165
+shown_length : (p : Option Report) → ((q : Report) → p ≡ some q → Bounded q) → length (page_in p) ≤ 9165
 shown_length none b = omega arith
 shown_length (some p) b = let within = b p refl in omega (arith, page-length-of p, lines_count p, within.results, within.bands, within.warnings)
 
-pub page_length : (t : Table) → length t ≤ 8 → (s : Session) → length (page_in (covered_in t (state s))) ≤ 9165
-page_length t few s = shown_length (covered_in t (state s)) (shown_bounded t few s.run s.edit)
+pub page_length : (s : Session) → length (page_in (report_in (state s))) ≤ 9165
+page_length s = shown_length (report_in (state s)) (shown_bounded s.run s.edit)

@@ -1,16 +1,13 @@
-// The page of the report that stands, under a table: one more call that reads a session.
+// The page of the report that stands: one more call that reads a session.
 ghost use Rattle.std.specs.Prelude.{◌≡◌, false, map, length, take};
 ghost use Rattle.std.proofs.Math.Option.{some};
-ghost use Rattle.definition.specs.Coverage.{rows_under, approximation_by, CoveredReport};
-ghost use Rattle.report.specs.Reading.{HeadWith};
-ghost use Rattle.coverage.specs.Table.{rows_in};
-ghost use Rattle.covered_report.specs.Reading.{covered_in};
+ghost use Rattle.definition.specs.Summary.{Report};
+ghost use Rattle.report.specs.Reading.{HeadOf, report_in};
 ghost use Rattle.editing.specs.Meaning.{state};
 ghost use Rattle.report_text.specs.Writing.{Writes};
 ghost use Rattle.answer_text.specs.Answers.{results_in, bands_in};
 ghost use Rattle.page_text.specs.Page.{shot_line, band_line, joined_lines, page_text, lines_in, page_in};
 
-use coverage::Table;
 use editing::Session;
 use report::{BandAt, ResultAt, Shown, UncertaintyTruingReportV1};
 
@@ -32,8 +29,8 @@ fn put_shots(out: &mut [u8], at: usize, s: Session, n: usize) -> usize
 }
 
 // The lines of the first n bands.
-fn put_bands(out: &mut [u8], at: usize, s: Session, n: usize, table: Table) -> usize
-    ensures { Writes out.old at out.new result (joined_lines (map band_line (take n (bands_in (rows_in table) s)))) }
+fn put_bands(out: &mut [u8], at: usize, s: Session, n: usize) -> usize
+    ensures { Writes out.old at out.new result (joined_lines (map band_line (take n (bands_in s)))) }
 {
     let mut next = report_text::put_bytes(out, at, b"");
     let mut i = 0usize;
@@ -42,46 +39,40 @@ fn put_bands(out: &mut [u8], at: usize, s: Session, n: usize, table: Table) -> u
         let BandAt::Given(b) = found else {
             return next;
         };
-        next = page_text::put_band(out, next, b, table);
+        next = page_text::put_band(out, next, b);
         i += 1;
     }
     next
 }
 
 // The page of a report by its head, its lists read from the session.
-fn put_given(
-    out: &mut [u8],
-    at: usize,
-    s: Session,
-    h: UncertaintyTruingReportV1,
-    table: Table,
-) -> usize
-    ensures { (p : CoveredReport) → covered_in (rows_in table) (state s) ≡ some p → HeadWith (approximation_by (rows_under (rows_in table))) h p → Writes out.old at out.new result (page_text p) }
+fn put_given(out: &mut [u8], at: usize, s: Session, h: UncertaintyTruingReportV1) -> usize
+    ensures { (p : Report) → report_in (state s) ≡ some p → HeadOf h p → Writes out.old at out.new result (page_text p) }
 {
     let n = h.observations;
     let m = h.predictive_bands;
     let found = h.warnings;
-    let at = page_text::put_head(out, at, h, table);
+    let at = page_text::put_head(out, at, h);
     let at = put_shots(out, at, s, n);
-    let at = put_bands(out, at, s, m, table);
+    let at = put_bands(out, at, s, m);
     page_text::put_warnings(out, at, found)
 }
 
 // The page from `at` on; where no report stands there is none.
-pub fn put_page(out: &mut [u8], at: usize, s: Session, table: Table) -> usize
-    ensures { Writes out.old at out.new result (page_in (covered_in (rows_in table) (state s))) }
+pub fn put_page(out: &mut [u8], at: usize, s: Session) -> usize
+    ensures { Writes out.old at out.new result (page_in (report_in (state s))) }
 {
-    match covered_report::report(s, table) {
+    match editing::report(s) {
         Shown::Absent => report_text::put_bytes(out, at, b""),
-        Shown::Given(h) => put_given(out, at, s, h, table),
+        Shown::Given(h) => put_given(out, at, s, h),
     }
 }
 
 // How many lines the page has.
-pub fn lines(s: Session, table: Table) -> usize
-    ensures { result ≡ length (lines_in (covered_in (rows_in table) (state s))) }
+pub fn lines(s: Session) -> usize
+    ensures { result ≡ length (lines_in (report_in (state s))) }
 {
-    match covered_report::report(s, table) {
+    match editing::report(s) {
         Shown::Absent => 0,
         Shown::Given(h) => {
             let found = h.warnings;

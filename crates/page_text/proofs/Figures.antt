@@ -6,8 +6,7 @@ use mathlib.Core.Bool.{true, false}
 use mathlib.Core.List.{List, [], ◌∷◌, ◌++◌, map}
 use mathlib.Core.Option.{none, some}
 use lib.Ieee.{Float, binary64, of_bits}
-use Rattle.interval.specs.declared.GaussianIntervalV1.{GaussianIntervalV1}
-use Rattle.definition.specs.Coverage.{CoveredBand, CoveredReport, withheld}
+use Rattle.definition.specs.Summary.{Report, unavailable}
 use Rattle.definition.specs.declared.Prior.TheVariants.{Absent}
 use Rattle.definition.specs.declared.TruingApproximationFailureCodeV1.TheVariants as Failure
 use Rattle.definition.specs.declared.TruingMapConvergenceCriterionV1.TheVariants as Criterion
@@ -139,7 +138,7 @@ bench_results =
     ∷ result 0x4069000000000000 0x4026000000000000 0x3ff0000000000000 0x4024000000000000 0xbff0000000000000 0xbff0000000000000
     ∷ []
 
-bench : CoveredReport
+bench : Report
 bench = record {
   schema_version = 1;
   point = record { mv = bits 0x409f400000000000; bc = bits 0x3fd3333333333333 };
@@ -168,7 +167,7 @@ bench = record {
     objective_poll_improvement = none;
     objective_poll_evaluations = 0;
   };
-  approximation = withheld Failure.RankDeficientInformation;
+  approximation = unavailable Failure.RankDeficientInformation;
   bands =
       record { range = bits 0x4062c00000000000; predicted_drop = bits 0x4024000000000000; latent = none; future = none }
       ∷ record { range = bits 0x4064000000000000; predicted_drop = bits 0x4024000000000000; latent = none; future = none }
@@ -206,7 +205,7 @@ odd_results =
     ∷ result 0x7e37e43c8800759c 0x3fb0000000000000 0x3ff0000000000000 0x7ff0000000000000 0x0000000000000000 0x0000000000000000
     ∷ []
 
-odd : CoveredReport
+odd : Report
 odd = record {
   schema_version = 1;
   point = record { mv = bits 0x7ff8000000000000; bc = bits 0x3fb0000000000000 };
@@ -230,8 +229,9 @@ odd = record {
     objective_poll_improvement = none;
     objective_poll_evaluations = 1024;
   };
-  approximation = withheld Failure.OptimizerDidNotConverge;
-  bands = [];
+  approximation = unavailable Failure.OptimizerDidNotConverge;
+  bands =
+      [];
   warnings = Warning.OptimizerDidNotConverge ∷ Warning.WeakBcSensitivity ∷ Warning.IllConditionedData ∷ Warning.GaussianApproximationUnavailable ∷ [];
 }
 
@@ -253,26 +253,3 @@ odd_shown : page_lines odd ≡ odd_page
 unfolding odd odd_results odd_page page_lines speed_line coefficient_line chi_square_line shot_line band_line warning_line phrase_text row_text cell_text shown_text
     number_text shown_of shown_at count_text glyph_of of_bits
 odd_shown = refl
-
--- ---- an interval of two rows: the last is shown
-
-abbrev interval : ℕ → ℕ → ℕ → GaussianIntervalV1
-interval lower upper level = record {
-  estimate = bits 0x4024000000000000;
-  standard_deviation = bits 0x3ff0000000000000;
-  lower = bits lower;
-  upper = bits upper;
-  probability = bits level;
-}
-
-two_rows : CoveredBand
-two_rows = record {
-  range = bits 0x4062c00000000000;
-  predicted_drop = bits 0x4024000000000000;
-  latent = some (interval 0x4022000000000000 0x4026000000000000 0x3fe0000000000000 ∷ interval 0x4020000000000000 0x4028000000000000 0x3fe8000000000000 ∷ []);
-  future = none;
-}
-
-two_rows_shown : band_line two_rows ≡ line "distance                    10.000         8.000        12.000  "
-unfolding two_rows band_line row_text cell_text shown_text number_text shown_of shown_at count_text glyph_of of_bits
-two_rows_shown = refl

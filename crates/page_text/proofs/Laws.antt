@@ -1,30 +1,23 @@
--- How the parts make the page: blanks, an interval's last row, the phrases' rows, the warnings one after another.
+-- How the parts make the page: blanks, the phrases' rows, the warnings one after another.
 use Prim.Native.Nat.{ℕ, zero, suc, ◌+◌, ◌-◌, ◌*◌, ◌≤◌}
 use mathlib.Core.Path.{◌≡◌, refl, sym, ap, ◌∙◌}
 use mathlib.Core.Bool.{Bool, true, false, cond}
 use mathlib.Core.List.{List, [], ◌∷◌, ◌++◌, map, append-nil, append_assoc}
-use mathlib.Core.Option.{some}
 use native.Mathlib.Omega.{arith}
 use lib.ListN.{length, take, drop, replicate, length-append, length-map}
 use lib.Ieee.{Float}
-use Rattle.interval.specs.declared.GaussianIntervalV1.{GaussianIntervalV1}
-use Rattle.definition.specs.Summary.{warn}
-use Rattle.definition.specs.Coverage.{Table, last_from, last_row, at_row, rows_under, approximation_by, CoveredBand, CoveredReport}
-use Rattle.definition.specs.declared.CoverageRow.{CoverageRow}
-use Rattle.coverage.specs.declared.Table as coverage
-use Rattle.coverage.specs.Table.{rows_in}
-use Rattle.coverage.proofs.TableRows.{rows_least}
+use Rattle.definition.specs.Summary.{warn, Band, Report}
 use Rattle.definition.specs.declared.TruingUncertaintyWarningCodeV1.{TruingUncertaintyWarningCodeV1}
 use Rattle.definition.specs.declared.TruingUncertaintyWarningCodeV1.TheVariants as Warning
 use Rattle.warnings.specs.Warnings.{codes, codes_of}
 use Rattle.warnings.specs.declared.Warnings.{Warnings}
-use Rattle.report.specs.Report.{Results, seen_with}
+use Rattle.report.specs.Report.{Results, seen_of}
 use Rattle.report.specs.declared.UncertaintyTruingReportV1.{UncertaintyTruingReportV1}
 use Rattle.report_text.specs.Writing.{Text}
 use Rattle.page_text.specs.Columns.{blanks, row_text}
 use Rattle.page_text.specs.declared.Cell.TheVariants.{Number}
 use Rattle.page_text.specs.declared.Ends.{Ends}
-use Rattle.page_text.specs.Page.{last_of, row_ends, ends_of, shot_line, band_line, phrase_text, warning_line, page_lines, joined_lines, page_text}
+use Rattle.page_text.specs.Page.{shot_line, band_line, phrase_text, warning_line, page_lines, joined_lines, page_text}
 use Rattle.page_text.specs.Pieces.{head_text, phrase_rows, row_of}
 
 -- the first n of some blanks
@@ -36,23 +29,6 @@ first_blanks (suc n) (suc k) h = ap (λ (t : Text). 32 ∷ t) (first_blanks n k 
 -- a line by the ends of an interval
 pub by_ends : (label : Text) (x : Float) {d e : Ends} → d ≡ e → row_text label (Number x) d.lower d.upper ≡ row_text label (Number x) e.lower e.upper
 by_ends label x e = ap (λ (f : Ends). row_text label (Number x) f.lower f.upper) e
-
--- ---- the last row
-
-last_from_lem : (r : CoverageRow) (g : GaussianIntervalV1) (t : Table) → last_of (some (at_row g r)) (map (at_row g) t) ≡ some (at_row g (last_from r t))
-last_from_lem r g [] = refl
-last_from_lem r g (x ∷ t) = last_from_lem x g t
-
--- of an interval under a table the page shows the last row
-last_ends : (t : Table) (g : GaussianIntervalV1) → 1 ≤ length t → ends_of (some (rows_under t g)) ≡ row_ends (some (at_row g (last_row t)))
-unfolding rows_under
-last_ends [] g h = absurd (omega arith)
-last_ends (r ∷ t) g h = ap row_ends (last_from_lem r g t)
-
--- every table of the code has a row
-pub shown_ends : (t : coverage.Table) (g : GaussianIntervalV1)
-    → ends_of (some (rows_under (rows_in t) g)) ≡ row_ends (some (at_row g (last_row (rows_in t))))
-shown_ends t g = last_ends (rows_in t) g (rows_least t)
 
 -- ---- the phrases
 
@@ -164,19 +140,19 @@ joined_append [] l = refl
 joined_append (t ∷ k) l = ap (λ (s : Text). t ++ s) (joined_append k l) ∙ sym (append_assoc t (joined_lines k) (joined_lines l))
 
 -- the parts, with the lists between them, are the page
-pub page_parts : (t : Table) (h : UncertaintyTruingReportV1) (results entered : Results) (bands : List CoveredBand)
-    → head_text t h
+pub page_parts : (h : UncertaintyTruingReportV1) (results entered : Results) (bands : List Band)
+    → head_text h
     ++ (joined_lines (map shot_line results) ++ (joined_lines (map band_line bands) ++ joined_lines (map warning_line (codes_of h.warnings))))
-    ≡ page_text (seen_with (approximation_by (rows_under t)) h results entered bands)
+    ≡ page_text (seen_of h results entered bands)
 unfolding head_text page_lines page_text
-page_parts t h results entered bands =
+page_parts h results entered bands =
     let lists : joined_lines (map shot_line results ++ (map band_line bands ++ map warning_line (codes_of h.warnings)))
     ≡ joined_lines (map shot_line results) ++ (joined_lines (map band_line bands) ++ joined_lines (map warning_line (codes_of h.warnings))) =
     joined_append (map shot_line results) (map band_line bands ++ map warning_line (codes_of h.warnings))
     ∙ ap (λ (t : Text). joined_lines (map shot_line results) ++ t) (joined_append (map band_line bands) (map warning_line (codes_of h.warnings))) in
     rw (lists, append_assoc, append_assoc)
 
-pub lines_count : (p : CoveredReport) → length (page_lines p) ≡ 3 + length p.observations + length p.bands + length p.warnings
+pub lines_count : (p : Report) → length (page_lines p) ≡ 3 + length p.observations + length p.bands + length p.warnings
 unfolding page_lines
 lines_count p =
     omega (

@@ -1,8 +1,8 @@
--- The page for the counter (L1): a report under a coverage table as lines of 64 columns, each ended by a line feed. An interval shows its last row (L2).
+-- The page for the counter (L1): a report as lines of 64 columns, each ended by a line feed.
 use Rattle.std.specs.Prelude.{ℕ, ◌≡◌, List, [], ◌∷◌, ◌++◌, map, length, take, Float}
 use Rattle.std.proofs.Math.Option.{Option, none, some}
 use Rattle.interval.specs.declared.GaussianIntervalV1.{GaussianIntervalV1}
-use Rattle.definition.specs.Coverage.{told, withheld, Rows, CoveredApproximation, CoveredBand, CoveredReport}
+use Rattle.definition.specs.Summary.{Approximation, available, unavailable, Band, Report}
 use Rattle.definition.specs.declared.TruingUncertaintyWarningCodeV1.{TruingUncertaintyWarningCodeV1}
 use Rattle.definition.specs.declared.WeightedTruingObservationResultV1.{WeightedTruingObservationResultV1}
 use Rattle.words.specs.Words.{bytes}
@@ -14,43 +14,28 @@ use Rattle.page_text.specs.declared.Ends.{Ends}
 
 -- ---- intervals
 
--- the last of some rows, else the one before them
-abbrev pub last_of : Option GaussianIntervalV1 → Rows → Option GaussianIntervalV1
-last_of before [] = before
-last_of before (g ∷ rows) = last_of (some g) rows
+-- the ends of an interval; where there is none, each is missing: a hyphen
+abbrev pub ends_of : Option GaussianIntervalV1 → Ends
+ends_of none = record { lower = Mark 45; upper = Mark 45 }
+ends_of (some g) = record { lower = Number g.lower; upper = Number g.upper }
 
--- the row of an interval that the page shows: the last; of no rows, which no table gives, none
-abbrev pub shown_row : Option Rows → Option GaussianIntervalV1
-shown_row none = none
-shown_row (some rows) = last_of none rows
+abbrev pub speed_interval : Approximation → Option GaussianIntervalV1
+speed_interval (available g q) = some g.muzzle_velocity_interval_95
+speed_interval (unavailable code) = none
 
--- the ends of a row; where there is none, each is missing: a hyphen
-abbrev pub row_ends : Option GaussianIntervalV1 → Ends
-row_ends none = record { lower = Mark 45; upper = Mark 45 }
-row_ends (some g) = record { lower = Number g.lower; upper = Number g.upper }
-
--- the ends of an interval
-abbrev pub ends_of : Option Rows → Ends
-ends_of interval = row_ends (shown_row interval)
-
--- the speed's and the coefficient's, where the approximation is available
-abbrev pub speed_interval : CoveredApproximation → Option Rows
-speed_interval (told g) = some g.muzzle_velocity
-speed_interval (withheld code) = none
-
-abbrev pub coefficient_interval : CoveredApproximation → Option Rows
-coefficient_interval (told g) = some g.ballistic_coefficient
-coefficient_interval (withheld code) = none
+abbrev pub coefficient_interval : Approximation → Option GaussianIntervalV1
+coefficient_interval (available g q) = some g.ballistic_coefficient_interval_95
+coefficient_interval (unavailable code) = none
 
 -- ---- the lines
 
 -- fitted value, lower, upper
-unfoldable pub speed_line : Float → CoveredApproximation → Text
+unfoldable pub speed_line : Float → Approximation → Text
 speed_line mv a =
     let ends = ends_of (speed_interval a) in
     line_text (bytes "speed") (Number mv) ends.lower ends.upper
 
-unfoldable pub coefficient_line : Float → CoveredApproximation → Text
+unfoldable pub coefficient_line : Float → Approximation → Text
 coefficient_line bc a =
     let ends = ends_of (coefficient_interval a) in
     line_text (bytes "coefficient") (Number bc) ends.lower ends.upper
@@ -64,7 +49,7 @@ unfoldable pub shot_line : WeightedTruingObservationResultV1 → Text
 shot_line o = line_text (bytes "shot") (Number o.range_yd) (Number o.observed_drop) (Number o.predicted_drop)
 
 -- predicted drop, latent lower, latent upper
-unfoldable pub band_line : CoveredBand → Text
+unfoldable pub band_line : Band → Text
 band_line b =
     let ends = ends_of b.latent in
     line_text (bytes "distance") (Number b.predicted_drop) ends.lower ends.upper
@@ -79,7 +64,7 @@ warning_line code = phrase_text code ++ (blanks 40 ++ (10 ∷ []))
 
 -- ---- the page
 
-unfoldable pub page_lines : CoveredReport → List Text
+unfoldable pub page_lines : Report → List Text
 page_lines p =
     speed_line p.point.mv p.approximation ∷ coefficient_line p.point.bc p.approximation ∷ chi_square_line p.diagnostics.chi_square ∷
     (map shot_line p.observations ++ (map band_line p.bands ++ map warning_line p.warnings))
@@ -89,15 +74,15 @@ abbrev pub joined_lines : List Text → Text
 joined_lines [] = []
 joined_lines (t ∷ ts) = t ++ joined_lines ts
 
-unfoldable pub page_text : CoveredReport → Text
+unfoldable pub page_text : Report → Text
 page_text p = joined_lines (page_lines p)
 
 -- where no report stands there is no page
-abbrev pub lines_in : Option CoveredReport → List Text
+abbrev pub lines_in : Option Report → List Text
 lines_in none = []
 lines_in (some p) = page_lines p
 
-abbrev pub page_in : Option CoveredReport → Text
+abbrev pub page_in : Option Report → Text
 page_in shown = joined_lines (lines_in shown)
 
 -- ---- its lines
@@ -114,4 +99,4 @@ every P (a ∷ l) = P a × every P l
 
 -- every line of every page is 64 columns and a line feed. Theorem `sixty_four`.
 abbrev pub SixtyFour : Type 0
-SixtyFour = (p : CoveredReport) → every Line (page_lines p)
+SixtyFour = (p : Report) → every Line (page_lines p)

@@ -1,23 +1,16 @@
 -- The page by the values of the code: the lines before the lists, and how the phrases are kept.
 use Rattle.std.specs.Prelude.{ℕ, List, [], ◌∷◌, ◌++◌, map}
-use Rattle.definition.specs.Coverage.{Table, rows_under, approximation_by, CoveredApproximation}
 use Rattle.definition.specs.Meaning.{approximation_says}
-use Rattle.definition.specs.declared.TruingApproximationV1.{TruingApproximationV1}
 use Rattle.definition.specs.declared.TruingUncertaintyWarningCodeV1.{TruingUncertaintyWarningCodeV1}
 use Rattle.definition.specs.declared.TruingUncertaintyWarningCodeV1.TheVariants as Warning
 use Rattle.report.specs.declared.UncertaintyTruingReportV1.{UncertaintyTruingReportV1}
 use Rattle.report_text.specs.Writing.{Text}
 use Rattle.page_text.specs.Page.{speed_line, coefficient_line, chi_square_line, phrase_text, joined_lines}
 
--- an approximation under a table
-abbrev pub approximation_under : Table → TruingApproximationV1 → CoveredApproximation
-approximation_under t a = approximation_by (rows_under t) (approximation_says a)
-
--- the lines of a report's head under a table
-unfoldable pub head_text : Table → UncertaintyTruingReportV1 → Text
-head_text t h =
-    speed_line h.map_muzzle_velocity_fps (approximation_under t h.approximation)
-    ++ (coefficient_line h.map_ballistic_coefficient (approximation_under t h.approximation) ++ chi_square_line h.diagnostics.chi_square)
+unfoldable pub head_text : UncertaintyTruingReportV1 → Text
+head_text h =
+    speed_line h.map_muzzle_velocity_fps (approximation_says h.approximation)
+    ++ (coefficient_line h.map_ballistic_coefficient (approximation_says h.approximation) ++ chi_square_line h.diagnostics.chi_square)
 
 -- ---- the phrases, a row of 24 bytes each
 

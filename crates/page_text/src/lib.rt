@@ -1,21 +1,16 @@
-// The page for the counter, written into a lent buffer line by line: each function writes from a position on and gives the next one. An interval
-// shows the last row of the coverage table.
+// The page for the counter, written into a lent buffer line by line: each function writes from a position on and gives the next one.
 ghost use Rattle.std.specs.Prelude.{◌≡◌, cond, [], ◌++◌, map, ◌+◌, ◌-◌, ◌*◌, ◌≤◌, ◌<◌, length};
-ghost use Rattle.std.proofs.Math.Option;
 ghost use Rattle.interval.specs.Interval.{says};
-ghost use Rattle.definition.specs.Coverage as definition;
-ghost use Rattle.definition.specs.Coverage.{rows_under, band_by};
-ghost use Rattle.coverage.specs.Table.{rows_in};
+ghost use Rattle.definition.specs.Meaning.{approximation_says};
 ghost use Rattle.bands.specs.Bands.{band_says};
 ghost use Rattle.warnings.specs.Warnings.{codes_of};
 ghost use Rattle.report_text.specs.Writing.{Writes};
 ghost use Rattle.page_text.specs.Columns.{blanks, right_aligned, sign_text, three_text, fixed_text, number_text, cell_text, row_text};
 ghost use Rattle.page_text.specs.Page.{ends_of, speed_interval, coefficient_interval, speed_line, coefficient_line, chi_square_line, shot_line, band_line};
 ghost use Rattle.page_text.specs.Page.{phrase_text, warning_line, joined_lines};
-ghost use Rattle.page_text.specs.Pieces.{approximation_under, head_text, phrase_rows, row_of};
+ghost use Rattle.page_text.specs.Pieces.{head_text, phrase_rows, row_of};
 
 use bands::TruingPredictiveBandV1;
-use coverage::Table;
 use definition::{
     TruingApproximationV1, TruingUncertaintyWarningCodeV1, WeightedTruingObservationResultV1,
 };
@@ -146,28 +141,23 @@ fn put_row(out: &mut [u8], at: usize, label: &[u8], a: Cell, b: Cell, c: Cell) -
 
 // ---- the lines of numbers
 
-// The ends of an interval at the last row of the table.
-fn ends_of(i: Interval, table: Table) -> Ends
-    ensures { result ≡ ends_of (Option.map (rows_under (rows_in table)) (says i)) }
+fn ends_of(i: Interval) -> Ends
+    ensures { result ≡ ends_of (says i) }
 {
     match i {
         Interval::Absent => Ends {
             lower: Cell::Mark(b'-'),
             upper: Cell::Mark(b'-'),
         },
-        Interval::Present(g) => {
-            let row = coverage::last(table);
-            let shown = g.at(row.level, row.factor);
-            Ends {
-                lower: Cell::Number(shown.lower),
-                upper: Cell::Number(shown.upper),
-            }
-        }
+        Interval::Present(g) => Ends {
+            lower: Cell::Number(g.lower),
+            upper: Cell::Number(g.upper),
+        },
     }
 }
 
 fn speed_interval(a: TruingApproximationV1) -> Interval
-    ensures { (t : definition.Table) → Option.map (rows_under t) (says result) ≡ speed_interval (approximation_under t a) }
+    ensures { says result ≡ speed_interval (approximation_says a) }
 {
     match a {
         TruingApproximationV1::Available(g, _) => {
@@ -179,7 +169,7 @@ fn speed_interval(a: TruingApproximationV1) -> Interval
 }
 
 fn coefficient_interval(a: TruingApproximationV1) -> Interval
-    ensures { (t : definition.Table) → Option.map (rows_under t) (says result) ≡ coefficient_interval (approximation_under t a) }
+    ensures { says result ≡ coefficient_interval (approximation_says a) }
 {
     match a {
         TruingApproximationV1::Available(g, _) => {
@@ -190,10 +180,10 @@ fn coefficient_interval(a: TruingApproximationV1) -> Interval
     }
 }
 
-fn put_speed(out: &mut [u8], at: usize, mv: f64, a: TruingApproximationV1, table: Table) -> usize
-    ensures { Writes out.old at out.new result (speed_line mv (approximation_under (rows_in table) a)) }
+fn put_speed(out: &mut [u8], at: usize, mv: f64, a: TruingApproximationV1) -> usize
+    ensures { Writes out.old at out.new result (speed_line mv (approximation_says a)) }
 {
-    let e = ends_of(speed_interval(a), table);
+    let e = ends_of(speed_interval(a));
     let lower = e.lower;
     let upper = e.upper;
     put_row(
@@ -206,16 +196,10 @@ fn put_speed(out: &mut [u8], at: usize, mv: f64, a: TruingApproximationV1, table
     )
 }
 
-fn put_coefficient(
-    out: &mut [u8],
-    at: usize,
-    bc: f64,
-    a: TruingApproximationV1,
-    table: Table,
-) -> usize
-    ensures { Writes out.old at out.new result (coefficient_line bc (approximation_under (rows_in table) a)) }
+fn put_coefficient(out: &mut [u8], at: usize, bc: f64, a: TruingApproximationV1) -> usize
+    ensures { Writes out.old at out.new result (coefficient_line bc (approximation_says a)) }
 {
-    let e = ends_of(coefficient_interval(a), table);
+    let e = ends_of(coefficient_interval(a));
     let lower = e.lower;
     let upper = e.upper;
     put_row(
@@ -242,13 +226,13 @@ fn put_chi_square(out: &mut [u8], at: usize, x: f64) -> usize
 }
 
 // The lines before those of the observations.
-pub fn put_head(out: &mut [u8], at: usize, h: UncertaintyTruingReportV1, table: Table) -> usize
-    ensures { Writes out.old at out.new result (head_text (rows_in table) h) }
+pub fn put_head(out: &mut [u8], at: usize, h: UncertaintyTruingReportV1) -> usize
+    ensures { Writes out.old at out.new result (head_text h) }
 {
     let approximation = h.approximation;
     let diagnostics = h.diagnostics;
-    let at = put_speed(out, at, h.map_muzzle_velocity_fps, approximation, table);
-    let at = put_coefficient(out, at, h.map_ballistic_coefficient, approximation, table);
+    let at = put_speed(out, at, h.map_muzzle_velocity_fps, approximation);
+    let at = put_coefficient(out, at, h.map_ballistic_coefficient, approximation);
     put_chi_square(out, at, diagnostics.chi_square)
 }
 
@@ -265,11 +249,11 @@ pub fn put_shot(out: &mut [u8], at: usize, o: WeightedTruingObservationResultV1)
     )
 }
 
-pub fn put_band(out: &mut [u8], at: usize, b: TruingPredictiveBandV1, table: Table) -> usize
-    ensures { Writes out.old at out.new result (band_line (band_by (rows_under (rows_in table)) (band_says b))) }
+pub fn put_band(out: &mut [u8], at: usize, b: TruingPredictiveBandV1) -> usize
+    ensures { Writes out.old at out.new result (band_line (band_says b)) }
 {
     let latent = b.latent_interval_95;
-    let e = ends_of(latent, table);
+    let e = ends_of(latent);
     let lower = e.lower;
     let upper = e.upper;
     put_row(

@@ -2,8 +2,7 @@
 use Prim.Native.Nat.{ℕ, zero, suc, ◌<◌, ◌≤◌}
 use mathlib.Core.Path.{◌≡◌, refl, sym, ap, ◌∙◌}
 use mathlib.Core.Bool.{Bool}
-use mathlib.Core.List.{List, [], ◌∷◌, map}
-use mathlib.Core.Option
+use mathlib.Core.List.{List, [], ◌∷◌}
 use mathlib.Core.Option.{Option, none, some}
 use native.Mathlib.Nat.{not-suc-le-zero, le_of_suc-le-suc}
 use native.Mathlib.Omega.{arith}
@@ -46,11 +45,6 @@ module _ {A : Type 0} where
   nth_past [] i h = refl
   nth_past (a ∷ xs) zero h = absurd (not-suc-le-zero h)
   nth_past (a ∷ xs) (suc i) h = nth_past xs i (le_of_suc-le-suc h)
-
-pub nth_map : {A B : Type 0} (f : A → B) (i : ℕ) (l : List A) → nth i (map f l) ≡ Option.map f (nth i l)
-nth_map f i [] = refl
-nth_map f zero (a ∷ l) = refl
-nth_map f (suc i) (a ∷ l) = nth_map f i l
 
 pub lists_same : ListsSame
 lists_same A [] [] h = refl

@@ -1,11 +1,11 @@
 -- What a host reads of a report: its head, and the places of its lists.
 use Rattle.std.specs.Prelude.{ℕ, ◌≤◌, ◌≡◌, List, [], length}
 use Rattle.std.proofs.Math.Option.{Option, none, some}
-use Rattle.definition.specs.Summary.{Approximation, ReportWith, Report, report_of}
+use Rattle.definition.specs.Summary.{Report, report_of}
 use Rattle.definition.specs.Summary as summary
 use Rattle.definition.specs.Session.{State, asking, standing, over}
 use Rattle.report.specs.Places.{nth, result_says, band_at_says}
-use Rattle.report.specs.Report.{Results, seen_with}
+use Rattle.report.specs.Report.{Results, seen_of}
 use Rattle.report.specs.declared.UncertaintyTruingReportV1.{UncertaintyTruingReportV1}
 use Rattle.report.specs.declared.ResultAt.{ResultAt}
 use Rattle.report.specs.declared.BandAt.{BandAt}
@@ -17,32 +17,25 @@ abbrev pub of_baseline : Option summary.Baseline → Results
 of_baseline none = []
 of_baseline (some b) = b.observations
 
--- the head is that of this report, its approximation told so: with the three lists it is the report, and its counts are those of the lists, the first also
--- that of the baseline's list
-pub record HeadWith {A I : Type 0} (approximation : Approximation → A) (h : UncertaintyTruingReportV1) (p : ReportWith A I) : Type 0 where
-  pub seen : p ≡ seen_with approximation h p.observations (of_baseline p.baseline) p.bands
+-- the head is that of this report: with the three lists it is the report, and its counts are those of the lists, the first also that of the baseline's list
+pub record HeadOf (h : UncertaintyTruingReportV1) (p : Report) : Type 0 where
+  pub seen : p ≡ seen_of h p.observations (of_baseline p.baseline) p.bands
   pub results : h.observations ≡ length p.observations
   pub baseline_results : length (of_baseline p.baseline) ≤ h.observations
   pub bands : h.predictive_bands ≡ length p.bands
 
-abbrev pub HeadOf : UncertaintyTruingReportV1 → Report → Type 0
-HeadOf h p = HeadWith (λ a. a) h p
-
-abbrev pub ShowsWith : {A I : Type 0} → (Approximation → A) → Shown → Option (ReportWith A I) → Type 0
-ShowsWith approximation Absent none = Unit {0}
-ShowsWith approximation Absent (some p) = ⊥
-ShowsWith approximation (Given h) none = ⊥
-ShowsWith approximation (Given h) (some p) = HeadWith approximation h p
-
 abbrev pub Shows : Shown → Option Report → Type 0
-Shows r p = ShowsWith (λ a. a) r p
+Shows Absent none = Unit {0}
+Shows Absent (some p) = ⊥
+Shows (Given h) none = ⊥
+Shows (Given h) (some p) = HeadOf h p
 
 -- a place of one of its lists, counted from 0; where no report stands there is none
-abbrev pub place_in : {P A : Type 0} → (P → List A) → ℕ → Option P → Option A
+abbrev pub place_in : {A : Type 0} → (Report → List A) → ℕ → Option Report → Option A
 place_in f i none = none
 place_in f i (some p) = nth i (f p)
 
-abbrev pub baseline_results : {A I : Type 0} → ReportWith A I → Results
+abbrev pub baseline_results : Report → Results
 baseline_results p = of_baseline p.baseline
 
 -- ---- the calls that read, by where a session stands

@@ -1,30 +1,22 @@
 -- How the parts of a text make the whole: fields in brackets, a list item by item, the warnings one after another, a report.
-use Prim.Native.Nat.{ℕ, zero, suc, ◌+◌, ◌<◌, ◌≤◌}
+use Prim.Native.Nat.{ℕ, zero, suc, ◌+◌}
 use mathlib.Core.Path.{◌≡◌, refl, sym, ap, ◌∙◌}
 use mathlib.Core.Bool.{Bool, true, false, ◌||◌}
 use mathlib.Core.List.{List, [], ◌∷◌, ◌++◌, map, append-nil, append_assoc}
-use mathlib.Core.Option
-use mathlib.Core.Option.{Option, none, some}
 use native.Mathlib.Nat.{add-zero}
-use native.Mathlib.Numerals.{add-one}
 use native.Mathlib.Omega.{arith}
-use lib.ListN.{length, take, get_or, length-map}
-use lib.Seq.{take_all}
-use Rattle.interval.specs.declared.GaussianIntervalV1.{GaussianIntervalV1}
-use Rattle.definition.specs.Summary.{Diagnostics, warn}
-use Rattle.definition.specs.Coverage.{Table, built_in_row, at_row, rows_under, approximation_by, Rows, CoveredBand}
+use lib.ListN.{length}
+use Rattle.definition.specs.Summary.{Band, Diagnostics, warn}
 use Rattle.definition.specs.declared.TruingUncertaintyWarningCodeV1.{TruingUncertaintyWarningCodeV1}
 use Rattle.warnings.specs.Warnings.{codes, codes_of}
 use Rattle.warnings.specs.declared.Warnings.{Warnings}
 use Rattle.report.specs.declared.Baseline.{Baseline}
 use Rattle.report.specs.declared.Baseline.TheVariants.{Absent, Given}
 use Rattle.report.specs.declared.UncertaintyTruingReportV1.{UncertaintyTruingReportV1}
-use Rattle.report.specs.Places.{nth}
-use Rattle.report.specs.Report.{Results, seen_with, baseline_says}
-use Rattle.report.proofs.Laws.{nth_at, nth_map}
+use Rattle.report.specs.Report.{Results, seen_of, baseline_says}
 use Rattle.words.specs.Words.{bytes, word_at}
 use Rattle.report_text.specs.Writing.{Text}
-use Rattle.report_text.specs.Texts.{led, joined, bracketed, gaussian_text, rows_text, results_text, baseline_text, diagnostics_text, bands_text, warning_name, warning_text, warnings_text}
+use Rattle.report_text.specs.Texts.{led, joined, bracketed, results_text, baseline_text, diagnostics_text, bands_text, warning_name, warning_text, warnings_text}
 use Rattle.report_text.specs.Texts.{report_text}
 use Rattle.report_text.specs.Pieces.{before, head_text, given_head, baseline_head, baseline_list, baseline_end, middle_text, end_text, sums_text, polls_text}
 use Rattle.report_text.specs.Pieces.{mark_text, marks_of, marks_from, marks_text}
@@ -97,75 +89,6 @@ one_more (g ∷ fs) f = rw (led_both fs (f ∷ []), append-nil, append_assoc)
 pub later : (i : ℕ) → (i ≡ 0 → ⊥) → bytes " " ≡ before i
 later zero h = absurd (h refl)
 later (suc i) h = refl
-
--- ---- a list place by place
-
-module _ {A : Type 0} where
-  -- a list up to a place that is there, and up to one that is not
-  pub taken : (l : List A) (i : ℕ) (a : A) → nth i l ≡ some a → (take (suc i) l ≡ take i l ++ (a ∷ [])) × (length (take i l) ≡ i)
-  taken [] i a e = let z : ◌≡◌ {A = ℕ} 0 1 = cc in absurd (omega arith)
-  taken (x ∷ l) zero a e = let s : x ≡ a = cc in (ap (λ (y : A). y ∷ []) s, refl)
-  taken (x ∷ l) (suc i) a e = let r = taken l i a e in (ap (λ (m : List A). x ∷ m) r.0, ap suc r.1)
-
-  past : (l : List A) (i : ℕ) → nth i l ≡ none → length l ≤ i
-  past [] i e = omega arith
-  past (x ∷ l) zero e = let z : ◌≡◌ {A = ℕ} 0 1 = cc in absurd (omega arith)
-  past (x ∷ l) (suc i) e = let h = past l i e in omega arith
-
-  mapped : (f : A → Text) (l : List A) (a : A) → map f (l ++ (a ∷ [])) ≡ map f l ++ (f a ∷ [])
-  mapped f [] a = refl
-  mapped f (x ∷ l) a = ap (λ (m : List Text). f x ∷ m) (mapped f l a)
-
-  as_many : (f : A → Text) (l : List A) → length (map f l) ≡ length l
-  as_many f [] = refl
-  as_many f (x ∷ l) = ap suc (as_many f l)
-
-  -- one item more
-  pub item : (f : A → Text) (l : List A) (i : ℕ) (a : A) → nth i l ≡ some a → joined (map f (take i l)) ++ (before i ++ f a) ≡ joined (map f (take (i + 1) l))
-  item f l i a e =
-      let r = taken l i a e in
-      ap (λ (n : ℕ). joined (map f (take i l)) ++ (before n ++ f a)) (sym (as_many f (take i l) ∙ r.1))
-      ∙ one_more (map f (take i l)) (f a)
-      ∙ ap joined (sym (mapped f (take i l) a))
-      ∙ ap (λ (m : List A). joined (map f m)) (sym r.0)
-      ∙ ap (λ (n : ℕ). joined (map f (take n l))) (sym (add-one i))
-
-  -- no item is left
-  pub all_taken : (l : List A) (i n : ℕ) → nth i l ≡ none → i ≤ n → take i l ≡ take n l
-  all_taken l i n e h = let k = past l i e in take_all i l k ∙ sym (take_all n l (omega arith))
-
--- ---- an interval by its rows
-
--- the k-th row
-pub row_at : (t : Table) (g : GaussianIntervalV1) (k : ℕ) → k < length t → nth k (rows_under t g) ≡ some (at_row g (get_or t k built_in_row))
-unfolding rows_under
-row_at t g k h = nth_map (at_row g) k t ∙ ap (Option.map (at_row g)) (nth_at built_in_row t k h)
-
-pub all_rows : (t : Table) (g : GaussianIntervalV1) → take (length t) (rows_under t g) ≡ rows_under t g
-unfolding rows_under
-all_rows t g = take_all (length t) (map (at_row g) t) (let e = length-map t (at_row g) in omega arith)
-
-as_long : (t : Table) (g : GaussianIntervalV1) → length (rows_under t g) ≡ length t
-unfolding rows_under
-as_long t g = length-map t (at_row g)
-
-one_row : (rows : Rows) → length rows ≡ 1 → joined (map gaussian_text rows) ≡ rows_text rows
-one_row [] e = absurd (omega arith)
-one_row (g ∷ []) e = joined_cons (gaussian_text g) [] ∙ ap (λ (s : Text). gaussian_text g ++ s) led_nil ∙ append-nil (gaussian_text g)
-one_row (g ∷ h ∷ rows) e = absurd (omega arith)
-
-more_rows : (rows : Rows) → (length rows ≡ 1 → ⊥) → bytes "(" ++ (joined (map gaussian_text rows) ++ bytes ")") ≡ rows_text rows
-more_rows [] e = sym (brackets [])
-more_rows (g ∷ []) e = absurd (e refl)
-more_rows (g ∷ h ∷ rows) e = sym (brackets (map gaussian_text (g ∷ h ∷ rows)))
-
--- a table of one row, and of several
-pub single_rows : (t : Table) (g : GaussianIntervalV1) → length t ≡ 1 → joined (map gaussian_text (rows_under t g)) ≡ rows_text (rows_under t g)
-single_rows t g e = one_row (rows_under t g) (as_long t g ∙ e)
-
-pub several_rows : (t : Table) (g : GaussianIntervalV1) → (length t ≡ 1 → ⊥)
-    → bytes "(" ++ (joined (map gaussian_text (rows_under t g)) ++ bytes ")") ≡ rows_text (rows_under t g)
-several_rows t g e = more_rows (rows_under t g) (λ k. e (sym (as_long t g) ∙ k))
 
 -- ---- the diagnostics
 
@@ -248,14 +171,14 @@ regroup h r a b c d t e =
     ap (λ (s : Text). h ++ (r ++ s)) (sym (ap (λ (s : Text). a ++ s) (append_assoc b c t)) ∙ sym (append_assoc a (b ++ c) t) ∙ ap (λ (s : Text). s ++ t) e)
 
 -- the parts, with the lists between them, are the report
-pub report_parts : (t : Table) (r : UncertaintyTruingReportV1) (results entered : Results) (bands : List CoveredBand)
+pub report_parts : (r : UncertaintyTruingReportV1) (results entered : Results) (bands : List Band)
     → head_text r
     ++ (results_text results
-    ++ (baseline_head r.baseline ++ (baseline_list r.baseline entered ++ (baseline_end r.baseline ++ (middle_text t r ++ (bands_text bands ++ end_text r))))))
-    ≡ report_text (seen_with (approximation_by (rows_under t)) r results entered bands)
+    ++ (baseline_head r.baseline ++ (baseline_list r.baseline entered ++ (baseline_end r.baseline ++ (middle_text r ++ (bands_text bands ++ end_text r))))))
+    ≡ report_text (seen_of r results entered bands)
 unfolding head_text middle_text end_text report_text
-report_parts t r results entered bands =
+report_parts r results entered bands =
     regroup (head_text r) (results_text results) (baseline_head r.baseline) (baseline_list r.baseline entered) (baseline_end r.baseline) _
-    (middle_text t r ++ (bands_text bands ++ end_text r))
+    (middle_text r ++ (bands_text bands ++ end_text r))
     (baseline_parts r.baseline entered)
     ∙ report_fields _ (_ ∷ _ ∷ _ ∷ _ ∷ _ ∷ _ ∷ []) (results_text results) _ _ _ (bands_text bands) _

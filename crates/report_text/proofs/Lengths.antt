@@ -1,25 +1,18 @@
--- How long the texts of the answers are: that of a report with at most 64 observations, 64 bands, 10 warnings and 8 rows an interval has at most 108700
--- bytes.
+-- How long the texts of the answers are: that of a report with at most 64 observations, 64 bands and 10 warnings has at most 28200 bytes.
 use Prim.Native.Nat.{ℕ, zero, suc, ◌+◌, ◌*◌, ◌/◌, ◌%◌, ◌≤◌}
 use mathlib.Core.Path.{◌≡◌, refl}
-use mathlib.Core.Bool.{Bool, true, false, cond, not, ◌||◌}
+use mathlib.Core.Bool.{Bool, true, false, cond}
 use mathlib.Core.List.{List, [], ◌∷◌, ◌++◌, map}
-use mathlib.Core.Option
 use mathlib.Core.Option.{Option, none, some}
 use native.Mathlib.Nat.{mul-suc}
 use native.Mathlib.Omega.{arith}
 use lib.Dec.{ltb}
-use lib.ListN.{length, length-append, length-map}
-use lib.Ieee.{Float, lt, binary64, to_bits}
-use Rattle.numeric.specs.Numeric.{finite}
-use Rattle.definition.specs.Constants.{least_sensitivity_ratio, largest_condition}
-use Rattle.definition.specs.Lists.{any, zip_with}
+use lib.ListN.{length, length-append}
+use lib.Ieee.{Float, binary64, to_bits}
 use Rattle.interval.specs.declared.GaussianIntervalV1.{GaussianIntervalV1}
 use Rattle.definition.specs.Request.{Requested, Measured}
 use Rattle.definition.specs.Fit.{Fit}
-use Rattle.definition.specs.Summary.{Approximation, Diagnostics, Baseline, Band, converged, is_mesh, where_available, dominated_of}
-use Rattle.definition.specs.Summary.{is_unavailable, at_most_one, is_outside, warn, warnings_with, available, unavailable}
-use Rattle.definition.specs.Coverage.{Table, at_row, rows_under, approximation_by, band_by, Rows, CoveredApproximation, told, withheld, CoveredBand, CoveredReport}
+use Rattle.definition.specs.Summary.{Approximation, available, unavailable, Diagnostics, Band, Baseline, Report, warn, warnings_of}
 use Rattle.definition.specs.declared.Evaluation.{Evaluation}
 use Rattle.definition.specs.declared.Prior.{Prior}
 use Rattle.definition.specs.declared.Prior.TheVariants as Prior
@@ -32,7 +25,8 @@ use Rattle.definition.specs.declared.TruingApproximationFailureCodeV1.{TruingApp
 use Rattle.definition.specs.declared.TruingApproximationFailureCodeV1.TheVariants as Failure
 use Rattle.definition.specs.declared.TruingUncertaintyWarningCodeV1.{TruingUncertaintyWarningCodeV1}
 use Rattle.definition.specs.declared.TruingUncertaintyWarningCodeV1.TheVariants as Warning
-use Rattle.warnings.specs.Warnings.{codes}
+use Rattle.warnings.specs.Warnings.{codes, warnings_by}
+use Rattle.warnings.proofs.Laws.{warnings_by_lem}
 use Rattle.report.specs.Report.{Results}
 use Rattle.numerals.specs.Numbers.{glyph_of, digits_of, places_of, double_text, count_text}
 use Rattle.words.specs.Words.{bytes}
@@ -48,7 +42,6 @@ use Rattle.report_text.specs.Texts.{
   failure_name,
   warning_name,
   gaussian_text,
-  rows_text,
   interval_text,
   normal_text,
   prior_text,
@@ -137,28 +130,9 @@ gaussian_length g =
       double_length g.probability,
     ))
 
--- at most eight rows: 2 + 88 for each
-rows_length : (rows : Rows) → length rows ≤ 8 → length (rows_text rows) ≤ 706
-rows_length [] h = short [] (omega arith)
-rows_length (g ∷ []) h = let l = gaussian_length g in omega arith
-rows_length (g ∷ k ∷ rows) h = short _ (omega (arith, map_size gaussian_text 87 gaussian_length (g ∷ k ∷ rows)))
-
--- an interval that is there has at most eight rows
-abbrev pub Eight : Option Rows → Type 0
-Eight none = Unit {0}
-Eight (some rows) = length rows ≤ 8
-
-interval_length : (i : Option Rows) → Eight i → length (interval_text i) ≤ 706
-interval_length none h = omega arith
-interval_length (some rows) h = rows_length rows h
-
-abbrev pub EightOf : CoveredApproximation → Type 0
-EightOf (told g) = (length g.muzzle_velocity ≤ 8) × (length g.ballistic_coefficient ≤ 8)
-EightOf (withheld code) = Unit {0}
-
-abbrev pub EightIn : List CoveredBand → Type 0
-EightIn [] = Unit {0}
-EightIn (b ∷ bands) = (Eight b.latent × Eight b.future) × EightIn bands
+interval_length : (i : Option GaussianIntervalV1) → length (interval_text i) ≤ 87
+interval_length none = omega arith
+interval_length (some g) = gaussian_length g
 
 prior_length : (p : Prior) → length (prior_text p) ≤ 36
 unfolding normal_text
@@ -236,38 +210,26 @@ unfolding covariance_text
 covariance_length c =
     short _ (omega (arith, double_length c.mv_variance_fps2, double_length c.mv_bc_covariance_fps, double_length c.bc_variance))
 
-approximation_length : (a : CoveredApproximation) → EightOf a → length (approximation_text a) ≤ 1514
+approximation_length : (a : Approximation) → length (approximation_text a) ≤ 276
 unfolding approximation_text available_text
-approximation_length (told g) h =
+approximation_length (available g q) =
     short _ (omega (
       arith,
       covariance_length g.covariance,
-      rows_length g.muzzle_velocity h.0,
-      rows_length g.ballistic_coefficient h.1,
-      double_length g.correlation,
-      double_length g.condition_number,
+      gaussian_length g.muzzle_velocity_interval_95,
+      gaussian_length g.ballistic_coefficient_interval_95,
+      double_length g.mv_bc_correlation,
+      double_length g.scaled_information_condition_number,
     ))
-approximation_length (withheld code) h = short _ (omega (arith, failure_length code))
+approximation_length (unavailable code) = short _ (omega (arith, failure_length code))
 
-band_length : (b : CoveredBand) → Eight b.latent → Eight b.future → length (band_text b) ≤ 1450
+pub band_length : (b : Band) → length (band_text b) ≤ 212
 unfolding band_text
-band_length b latent future =
-    short _
-    (omega (
-      arith,
-      double_length b.range,
-      double_length b.predicted_drop,
-      interval_length b.latent latent,
-      interval_length b.future future,
-    ))
+band_length b = short _ (omega (arith, double_length b.range, double_length b.predicted_drop, interval_length b.latent, interval_length b.future))
 
-bands_size : (bands : List CoveredBand) → EightIn bands → size (map band_text bands) ≤ 2 + 1451 * length bands
-bands_size [] h = omega arith
-bands_size (b ∷ bands) h = omega (arith, band_length b h.0.0 h.0.1, bands_size bands h.1, mul-suc 1451 (length bands))
-
-bands_length : (bands : List CoveredBand) → EightIn bands → length bands ≤ 64 → length (bands_text bands) ≤ 92866
+bands_length : (bands : List Band) → length bands ≤ 64 → length (bands_text bands) ≤ 13634
 unfolding bands_text
-bands_length bands e h = short _ (omega (arith, bands_size bands e))
+bands_length bands h = short _ (omega (arith, map_size band_text 212 band_length bands))
 
 name_length : (code : TruingUncertaintyWarningCodeV1) → length (warning_name code) ≤ 32
 name_length Warning.OptimizerDidNotConverge = omega arith
@@ -317,15 +279,10 @@ codes_length a b c d e f g h i j =
       warn_length a Warning.OptimizerDidNotConverge l1,
     )
 
-pub warnings_most : (crosses : Bool) (m : Measured) (f : Fit) (e : Evaluation) (a : Approximation) (d : Diagnostics) (requested : List Requested)
-    → length (warnings_with crosses m f e a d requested) ≤ 10
-unfolding codes
-warnings_most crosses m f e a d requested =
-    codes_length (not (converged f.convergence)) (is_mesh f.convergence) (lt e.bc_sensitivity_ratio least_sensitivity_ratio)
-    (not (finite e.data_condition_number) || lt largest_condition e.data_condition_number)
-    (where_available (λ g. dominated_of m.priors.muzzle_velocity_fps g.covariance.mv_variance_fps2) a)
-    (where_available (λ g. dominated_of m.priors.ballistic_coefficient g.covariance.bc_variance) a) (is_unavailable a) crosses
-    (at_most_one d.effective_degrees_of_freedom) (any (is_outside m.observations) requested)
+pub warnings_most : (m : Measured) (f : Fit) (e : Evaluation) (a : Approximation) (d : Diagnostics) (requested : List Requested)
+    → length (warnings_of m f e a d requested) ≤ 10
+unfolding warnings_by
+warnings_most m f e a d requested = rw warnings_by_lem (codes_length _ _ _ _ _ _ _ _ _ _)
 
 warnings_length : (codes : List TruingUncertaintyWarningCodeV1) → length codes ≤ 10 → length (warnings_text codes) ≤ 362
 unfolding warnings_text
@@ -337,35 +294,14 @@ truth_length false = omega arith
 
 -- ---- the answers
 
--- the lists of a report have no more entries than a session has places, there are ten warnings, and an interval has at most eight rows
-pub record Bounded (p : CoveredReport) : Type 0 where
+-- the lists of a report have no more entries than a session has places, and there are ten warnings
+pub record Bounded (p : Report) : Type 0 where
   pub results : length p.observations ≤ 64
   pub entered : (b : Baseline) → p.baseline ≡ some b → length b.observations ≤ 64
   pub bands : length p.bands ≤ 64
   pub warnings : length p.warnings ≤ 10
-  pub parameter_rows : EightOf p.approximation
-  pub band_rows_lem : EightIn p.bands
 
--- under a table of at most eight rows
-module _ (t : Table) (few : length t ≤ 8) where
-  rows_eight : (g : GaussianIntervalV1) → length (rows_under t g) ≤ 8
-  unfolding rows_under
-  rows_eight g = let e = length-map t (at_row g) in omega arith
-
-  option_eight : (i : Option GaussianIntervalV1) → Eight (Option.map (rows_under t) i)
-  option_eight none = tt
-  option_eight (some g) = rows_eight g
-
-  pub approximation_eight : (a : Approximation) → EightOf (approximation_by (rows_under t) a)
-  approximation_eight (available g q) = (rows_eight g.muzzle_velocity_interval_95, rows_eight g.ballistic_coefficient_interval_95)
-  approximation_eight (unavailable code) = tt
-
-  pub bands_eight : {A B : Type 0} (f : A → B → Band) (xs : List A) (ys : List B) → EightIn (zip_with (λ x y. band_by (rows_under t) (f x y)) xs ys)
-  bands_eight f [] ys = tt
-  bands_eight f (x ∷ xs) [] = tt
-  bands_eight f (x ∷ xs) (y ∷ ys) = ((option_eight (f x y).latent, option_eight (f x y).future), bands_eight f xs ys)
-
-pub report_length : (p : CoveredReport) → Bounded p → length (report_text p) ≤ 108700
+pub report_length : (p : Report) → Bounded p → length (report_text p) ≤ 28200
 unfolding report_text
 report_length p h =
     short _ (omega (
@@ -379,8 +315,8 @@ report_length p h =
       results_length p.observations h.results,
       baseline_length p.baseline h.entered,
       diagnostics_length p.diagnostics,
-      approximation_length p.approximation h.parameter_rows,
-      bands_length p.bands h.band_rows_lem h.bands,
+      approximation_length p.approximation,
+      bands_length p.bands h.bands,
       warnings_length p.warnings h.warnings,
     ))
 

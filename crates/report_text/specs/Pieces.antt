@@ -2,7 +2,6 @@
 use Rattle.std.specs.Prelude.{ℕ, zero, suc, Bool, false, ◌||◌, cond, List, [], ◌∷◌, ◌++◌}
 use Rattle.definition.specs.Meaning.{approximation_says}
 use Rattle.definition.specs.Summary.{Diagnostics}
-use Rattle.definition.specs.Coverage.{Table, rows_under, approximation_by}
 use Rattle.definition.specs.declared.WeightedTruingObservationResultV1.{WeightedTruingObservationResultV1}
 use Rattle.summary.specs.Summary.{diagnostics_says}
 use Rattle.warnings.specs.Warnings.{codes_of}
@@ -62,11 +61,9 @@ unfoldable pub baseline_end : Baseline → Text
 baseline_end Absent = []
 baseline_end (Given b) = bytes ")"
 
--- from the baseline to the list of bands, under a table
-unfoldable pub middle_text : Table → UncertaintyTruingReportV1 → Text
-middle_text t r =
-    led (diagnostics_text (diagnostics_says r.diagnostics) ∷ approximation_text (approximation_by (rows_under t) (approximation_says r.approximation)) ∷ [])
-    ++ bytes " "
+-- from the baseline to the list of bands
+unfoldable pub middle_text : UncertaintyTruingReportV1 → Text
+middle_text r = led (diagnostics_text (diagnostics_says r.diagnostics) ∷ approximation_text (approximation_says r.approximation) ∷ []) ++ bytes " "
 
 -- from the list of bands to the end
 unfoldable pub end_text : UncertaintyTruingReportV1 → Text

@@ -7,6 +7,7 @@ use Rattle.definition.specs.declared.Prior.{Prior}
 use Rattle.definition.specs.declared.Prior.TheVariants.{Absent, Normal}
 use Rattle.definition.specs.declared.TruingPriorsV1.{TruingPriorsV1}
 use Rattle.definition.specs.declared.TruingCovarianceV1.{TruingCovarianceV1}
+use Rattle.definition.specs.declared.TruingGaussianApproximationV1.{TruingGaussianApproximationV1}
 use Rattle.definition.specs.declared.WeightedTruingObservationResultV1.{WeightedTruingObservationResultV1}
 use Rattle.definition.specs.declared.TruingMapConvergenceCriterionV1.{TruingMapConvergenceCriterionV1}
 use Rattle.definition.specs.declared.TruingMapConvergenceCriterionV1.TheVariants.{ScaledGradient, ObjectiveMesh}
@@ -14,8 +15,7 @@ use Rattle.definition.specs.declared.TruingApproximationFailureCodeV1.{TruingApp
 use Rattle.definition.specs.declared.TruingApproximationFailureCodeV1.TheVariants as Failure
 use Rattle.definition.specs.declared.TruingUncertaintyWarningCodeV1.{TruingUncertaintyWarningCodeV1}
 use Rattle.definition.specs.declared.TruingUncertaintyWarningCodeV1.TheVariants as Warning
-use Rattle.definition.specs.Summary.{Baseline, Diagnostics}
-use Rattle.definition.specs.Coverage.{Rows, GaussianWith, CoveredApproximation, told, withheld, CoveredBand, CoveredReport}
+use Rattle.definition.specs.Summary.{Baseline, Approximation, available, unavailable, Diagnostics, Band, Report}
 use Rattle.numerals.specs.Numbers.{double_text, count_text}
 use Rattle.words.specs.Words.{bytes}
 use Rattle.report_text.specs.Writing.{Text}
@@ -82,14 +82,8 @@ gaussian_text g =
     bracketed (double_text g.estimate ∷ double_text g.standard_deviation ∷ double_text g.lower ∷ double_text g.upper ∷ double_text
     g.probability ∷ [])
 
--- L2: an interval by its rows: a single one as its record, several as a list of records; an absent one is a single none
-abbrev pub rows_text : Rows → Text
-rows_text [] = bracketed []
-rows_text (g ∷ []) = gaussian_text g
-rows_text (g ∷ h ∷ rows) = bracketed (map gaussian_text (g ∷ h ∷ rows))
-
-abbrev pub interval_text : Option Rows → Text
-interval_text i = or_none rows_text i
+abbrev pub interval_text : Option GaussianIntervalV1 → Text
+interval_text i = or_none gaussian_text i
 
 unfoldable pub normal_text : NormalPriorV1 → Text
 normal_text p = bracketed (double_text p.mean ∷ double_text p.sigma ∷ [])
@@ -127,20 +121,21 @@ diagnostics_text d =
 unfoldable pub covariance_text : TruingCovarianceV1 → Text
 covariance_text c = bracketed (double_text c.mv_variance_fps2 ∷ double_text c.mv_bc_covariance_fps ∷ double_text c.bc_variance ∷ [])
 
-unfoldable pub available_text : GaussianWith Rows → Text
+-- the scaled covariance is no field of the report
+unfoldable pub available_text : TruingGaussianApproximationV1 → Text
 available_text g =
     bracketed
-    (bytes "Available" ∷ covariance_text g.covariance ∷ rows_text g.muzzle_velocity ∷ rows_text g.ballistic_coefficient ∷
-    double_text g.correlation ∷ double_text g.condition_number ∷ [])
+    (bytes "Available" ∷ covariance_text g.covariance ∷ gaussian_text g.muzzle_velocity_interval_95 ∷ gaussian_text g.ballistic_coefficient_interval_95 ∷
+    double_text g.mv_bc_correlation ∷ double_text g.scaled_information_condition_number ∷ [])
 
-unfoldable pub approximation_text : CoveredApproximation → Text
-approximation_text (told g) = available_text g
-approximation_text (withheld code) = bracketed (bytes "Unavailable" ∷ failure_name code ∷ [])
+unfoldable pub approximation_text : Approximation → Text
+approximation_text (available g q) = available_text g
+approximation_text (unavailable code) = bracketed (bytes "Unavailable" ∷ failure_name code ∷ [])
 
-unfoldable pub band_text : CoveredBand → Text
+unfoldable pub band_text : Band → Text
 band_text b = bracketed (double_text b.range ∷ double_text b.predicted_drop ∷ interval_text b.latent ∷ interval_text b.future ∷ [])
 
-unfoldable pub bands_text : List CoveredBand → Text
+unfoldable pub bands_text : List Band → Text
 bands_text bands = bracketed (map band_text bands)
 
 -- a warning is a record of one code
@@ -152,7 +147,7 @@ warnings_text codes = bracketed (map warning_text codes)
 
 -- ---- the report
 
-unfoldable pub report_text : CoveredReport → Text
+unfoldable pub report_text : Report → Text
 report_text p =
     bracketed
     (bytes "report" ∷ count_text p.schema_version ∷ double_text p.point.mv ∷ double_text p.point.bc ∷ count_text p.iterations ∷ truth_text p.is_converged ∷

@@ -1,9 +1,6 @@
 // A report and the other answers as texts, written into a lent buffer: each function writes from a position on and gives the next one.
-ghost use Rattle.std.specs.Prelude.{◌≡◌, cond, ◌∷◌, [], ◌++◌, map, get_or, min};
-ghost use Rattle.std.proofs.Math.Option;
+ghost use Rattle.std.specs.Prelude.{◌≡◌, cond, ◌∷◌, [], ◌++◌, min};
 ghost use Rattle.interval.specs.Interval.{says};
-ghost use Rattle.definition.specs.Coverage.{built_in_row, at_row, rows_under, gaussian_by, approximation_by, band_by};
-ghost use Rattle.coverage.specs.Table.{rows_in};
 ghost use Rattle.definition.specs.Meaning.{number_of, approximation_says};
 ghost use Rattle.summary.specs.Summary.{criterion_says, diagnostics_says};
 ghost use Rattle.bands.specs.Bands.{band_says};
@@ -11,14 +8,13 @@ ghost use Rattle.warnings.specs.Warnings.{codes_of};
 ghost use Rattle.words.specs.Words.{bytes, word_at};
 ghost use Rattle.numerals.specs.Numbers.{double_text, count_text};
 ghost use Rattle.report_text.specs.Writing.{Writes};
-ghost use Rattle.report_text.specs.Texts.{bracketed, or_none, truth_text, number_text, criterion_name, failure_name, gaussian_text, rows_text, interval_text, normal_text};
-ghost use Rattle.report_text.specs.Texts.{joined, prior_text, priors_text, result_text, diagnostics_text, covariance_text, available_text, approximation_text};
-ghost use Rattle.report_text.specs.Texts.{band_text, warnings_text, list_name, question_text, declined_text, asked_text, page_count_text, malformed_text};
+ghost use Rattle.report_text.specs.Texts.{bracketed, or_none, truth_text, number_text, criterion_name, failure_name, gaussian_text, interval_text, normal_text};
+ghost use Rattle.report_text.specs.Texts.{prior_text, priors_text, result_text, diagnostics_text, covariance_text, available_text, approximation_text, band_text};
+ghost use Rattle.report_text.specs.Texts.{warnings_text, list_name, question_text, declined_text, asked_text, page_count_text, malformed_text};
 ghost use Rattle.report_text.specs.Pieces.{before, head_text, given_head, baseline_head, baseline_end, middle_text, end_text, sums_text, polls_text, mark_text};
 ghost use Rattle.report_text.specs.Pieces.{marks_of, marks_text};
 
 use bands::TruingPredictiveBandV1;
-use coverage::Table;
 use definition::{
     Distances, NormalPriorV1, Number, Prior, TruingApproximationFailureCodeV1,
     TruingApproximationV1, TruingCovarianceV1, TruingGaussianApproximationV1,
@@ -204,47 +200,12 @@ fn put_gaussian(out: &mut [u8], at: usize, g: GaussianIntervalV1) -> usize
     put_byte(out, at, b')')
 }
 
-// The k-th row of an interval, with the blank before it.
-fn put_next_row(out: &mut [u8], at: usize, k: usize, g: GaussianIntervalV1, table: Table) -> usize
-    ensures { Writes out.old at out.new result (before k ++ gaussian_text (at_row g (get_or (rows_in table) k built_in_row))) }
-{
-    let at = put_before(out, at, k);
-    put_gaussian(out, at, coverage::interval_row(table, k, g))
-}
-
-// The rows of an interval, one blank between two.
-fn put_row_list(out: &mut [u8], at: usize, g: GaussianIntervalV1, table: Table) -> usize
-    ensures { Writes out.old at out.new result (joined (map gaussian_text (rows_under (rows_in table) g))) }
-{
-    let n = coverage::rows(table);
-    let mut next = put_bytes(out, at, b"");
-    let mut i = 0usize;
-    while i < n {
-        next = put_next_row(out, next, i, g, table);
-        i += 1;
-    }
-    next
-}
-
-// An interval by its rows: a single one as its record, several as a list.
-fn put_rows(out: &mut [u8], at: usize, g: GaussianIntervalV1, table: Table) -> usize
-    ensures { Writes out.old at out.new result (rows_text (rows_under (rows_in table) g)) }
-{
-    let n = coverage::rows(table);
-    if n == 1 {
-        return put_row_list(out, at, g, table);
-    }
-    let at = put_byte(out, at, b'(');
-    let at = put_row_list(out, at, g, table);
-    put_byte(out, at, b')')
-}
-
-fn put_interval(out: &mut [u8], at: usize, i: Interval, table: Table) -> usize
-    ensures { Writes out.old at out.new result (interval_text (Option.map (rows_under (rows_in table)) (says i))) }
+fn put_interval(out: &mut [u8], at: usize, i: Interval) -> usize
+    ensures { Writes out.old at out.new result (interval_text (says i)) }
 {
     match i {
         Interval::Absent => put_word(out, at, words::NONE),
-        Interval::Present(g) => put_rows(out, at, g, table),
+        Interval::Present(g) => put_gaussian(out, at, g),
     }
 }
 
@@ -342,8 +303,8 @@ fn put_covariance(out: &mut [u8], at: usize, c: TruingCovarianceV1) -> usize
     put_byte(out, at, b')')
 }
 
-fn put_available(out: &mut [u8], at: usize, g: TruingGaussianApproximationV1, table: Table) -> usize
-    ensures { Writes out.old at out.new result (available_text (gaussian_by (rows_under (rows_in table)) g)) }
+fn put_available(out: &mut [u8], at: usize, g: TruingGaussianApproximationV1) -> usize
+    ensures { Writes out.old at out.new result (available_text g) }
 {
     let covariance = g.covariance;
     let speed = g.muzzle_velocity_interval_95;
@@ -351,19 +312,19 @@ fn put_available(out: &mut [u8], at: usize, g: TruingGaussianApproximationV1, ta
     let at = put_start(out, at, words::AVAILABLE);
     let at = put_covariance(out, at, covariance);
     let at = put_byte(out, at, b' ');
-    let at = put_rows(out, at, speed, table);
+    let at = put_gaussian(out, at, speed);
     let at = put_byte(out, at, b' ');
-    let at = put_rows(out, at, coefficient, table);
+    let at = put_gaussian(out, at, coefficient);
     let at = led_double(out, at, g.mv_bc_correlation);
     let at = led_double(out, at, g.scaled_information_condition_number);
     put_byte(out, at, b')')
 }
 
-fn put_approximation(out: &mut [u8], at: usize, a: TruingApproximationV1, table: Table) -> usize
-    ensures { Writes out.old at out.new result (approximation_text (approximation_by (rows_under (rows_in table)) (approximation_says a))) }
+fn put_approximation(out: &mut [u8], at: usize, a: TruingApproximationV1) -> usize
+    ensures { Writes out.old at out.new result (approximation_text (approximation_says a)) }
 {
     match a {
-        TruingApproximationV1::Available(g, _) => put_available(out, at, g, table),
+        TruingApproximationV1::Available(g, _) => put_available(out, at, g),
         TruingApproximationV1::Unavailable(code) => {
             let at = put_start(out, at, words::UNAVAILABLE);
             let at = put_word(out, at, failure_word(code));
@@ -372,23 +333,23 @@ fn put_approximation(out: &mut [u8], at: usize, a: TruingApproximationV1, table:
     }
 }
 
-fn led_interval(out: &mut [u8], at: usize, i: Interval, table: Table) -> usize
-    ensures { Writes out.old at out.new result (bytes " " ++ interval_text (Option.map (rows_under (rows_in table)) (says i))) }
+fn led_interval(out: &mut [u8], at: usize, i: Interval) -> usize
+    ensures { Writes out.old at out.new result (bytes " " ++ interval_text (says i)) }
 {
     let at = put_byte(out, at, b' ');
-    put_interval(out, at, i, table)
+    put_interval(out, at, i)
 }
 
-fn put_band(out: &mut [u8], at: usize, b: TruingPredictiveBandV1, table: Table) -> usize
-    ensures { Writes out.old at out.new result (band_text (band_by (rows_under (rows_in table)) (band_says b))) }
+fn put_band(out: &mut [u8], at: usize, b: TruingPredictiveBandV1) -> usize
+    ensures { Writes out.old at out.new result (band_text (band_says b)) }
 {
     let latent = b.latent_interval_95;
     let future = b.future_observation_interval_95;
     let at = put_byte(out, at, b'(');
     let at = put_double(out, at, b.range_yd);
     let at = led_double(out, at, b.predicted_drop);
-    let at = led_interval(out, at, latent, table);
-    let at = led_interval(out, at, future, table);
+    let at = led_interval(out, at, latent);
+    let at = led_interval(out, at, future);
     put_byte(out, at, b')')
 }
 
@@ -515,16 +476,16 @@ pub fn put_baseline_end(out: &mut [u8], at: usize, b: Baseline) -> usize
     }
 }
 
-// From the baseline to the list of bands, under a table.
-pub fn put_middle(out: &mut [u8], at: usize, p: UncertaintyTruingReportV1, table: Table) -> usize
-    ensures { Writes out.old at out.new result (middle_text (rows_in table) p) }
+// From the baseline to the list of bands.
+pub fn put_middle(out: &mut [u8], at: usize, p: UncertaintyTruingReportV1) -> usize
+    ensures { Writes out.old at out.new result (middle_text p) }
 {
     let diagnostics = p.diagnostics;
     let approximation = p.approximation;
     let at = put_byte(out, at, b' ');
     let at = put_diagnostics(out, at, diagnostics);
     let at = put_byte(out, at, b' ');
-    let at = put_approximation(out, at, approximation, table);
+    let at = put_approximation(out, at, approximation);
     put_byte(out, at, b' ')
 }
 
@@ -561,18 +522,12 @@ pub fn put_next_result(
     put_result(out, at, o)
 }
 
-// The i-th item of the list of bands under a table, with the blank before it.
-pub fn put_next_band(
-    out: &mut [u8],
-    at: usize,
-    i: usize,
-    b: TruingPredictiveBandV1,
-    table: Table,
-) -> usize
-    ensures { Writes out.old at out.new result (before i ++ band_text (band_by (rows_under (rows_in table)) (band_says b))) }
+// The i-th item of the list of bands, with the blank before it.
+pub fn put_next_band(out: &mut [u8], at: usize, i: usize, b: TruingPredictiveBandV1) -> usize
+    ensures { Writes out.old at out.new result (before i ++ band_text (band_says b)) }
 {
     let at = put_before(out, at, i);
-    put_band(out, at, b, table)
+    put_band(out, at, b)
 }
 
 // ---- the other answers

@@ -113,7 +113,7 @@ struct Total {
 
 // A run, its report written from the start of `out`. The session goes from answer to reply with no copy made here.
 fn run<'a>(
-    out: &mut [u8; 131072],
+    out: &mut [u8; 32768],
     solver: u64,
     writes: bool,
     ranges: &'a [f64],
@@ -138,7 +138,7 @@ fn run<'a>(
     }
     let mut end = 0usize;
     if writes {
-        end = answer_text::put_answer(out, 0, a, coverage::single());
+        end = answer_text::put_answer(out, 0, a);
     }
     Total {
         questions: editing::asked(a.session),
@@ -193,14 +193,7 @@ fn small(n: u64) -> usize {
     n as usize
 }
 
-fn runs(
-    out: &mut [u8; 131072],
-    times: u64,
-    n: usize,
-    m: usize,
-    solver: u64,
-    writes: bool,
-) -> Total {
+fn runs(out: &mut [u8; 32768], times: u64, n: usize, m: usize, solver: u64, writes: bool) -> Total {
     let ranges = ranges_from(100.0, 12.5);
     let distances = ranges_from(150.0, 12.5);
     let mut drops = [0.0; 64];
@@ -255,21 +248,21 @@ fn word(s: &[u8], k: usize) -> u64 {
 }
 
 // The runs that a line asks for.
-fn counted(out: &mut [u8; 131072], line: &[u8]) -> Total {
+fn counted(out: &mut [u8; 32768], line: &[u8]) -> Total {
     let n = small(word(line, 1));
     let m = small(word(line, 2));
     let writes = word(line, 4) != 2;
     runs(out, word(line, 0), n, m, word(line, 3), writes)
 }
 
-fn print_line(out: &[u8; 131072], n: usize) -> bool {
+fn print_line(out: &[u8; 32768], n: usize) -> bool {
     io::write_all(STDOUT_FILENO, slices::first_bytes(out, n))
         && io::write_all(STDOUT_FILENO, &[10u8])
 }
 
 fn main() {
     let mut space = [0u8; 4096];
-    let mut out = [0u8; 131072];
+    let mut out = [0u8; 32768];
     let got = libc::read(STDIN_FILENO, &mut space);
     let n = io::count(got, &space);
     let total = counted(&mut out, &space[..n]);

@@ -11,7 +11,6 @@ use Rattle.definition.specs.Likelihood.{with_prior_gradient_of, from_sums, evalu
 use Rattle.definition.specs.Whole.{within_of, positive_of, sound_observation_of, sound_prior_of, sound_requested_of, checked_point, checked_count, checked_measured}
 use Rattle.definition.specs.Whole.{checked_requested, band_rows, baseline, concluded, banded, fitted, run, whole, edit_questions, edit}
 use Rattle.definition.specs.Session.{more_of}
-use Rattle.definition.specs.Coverage.{built_in}
 use Rattle.numerals.specs.Numbers.{digit_of, glyph_of, double_of, double_text, count_of, count_text}
 use Rattle.words.specs.Words.{bytes}
 use Rattle.lines.specs.Lines.{form_of, entered_of, shot_of, prior_of, distance_of, put_in_of, exchange_of, take_out_of}
@@ -43,19 +42,19 @@ abbrev page : List (List ℕ) → List ℕ
 page [] = []
 page (l ∷ ls) = l ++ (10 ∷ page ls)
 
-asks_first : output_of built_in (page (bytes "(asked)" ∷ [])) ≡ page (bytes "(asked 0)" ∷ [])
+asks_first : output_of (page (bytes "(asked)" ∷ [])) ≡ page (bytes "(asked 0)" ∷ [])
 unfolding lines doubles fits runs
 asks_first = refl
 
-none_of_the_forms : output_of built_in (page (bytes "(refused)" ∷ bytes "(asked )" ∷ [])) ≡ page (bytes "(declined 8 0)" ∷ bytes "(malformed 2)" ∷ [])
+none_of_the_forms : output_of (page (bytes "(refused)" ∷ bytes "(asked )" ∷ [])) ≡ page (bytes "(declined 8 0)" ∷ bytes "(malformed 2)" ∷ [])
 unfolding lines doubles fits runs
 none_of_the_forms = refl
 
-unended_line : output_of built_in (page (bytes "(take-out 1)" ∷ []) ++ bytes "(asked)") ≡ page (bytes "(declined 14 0)" ∷ bytes "(malformed 2)" ∷ [])
+unended_line : output_of (page (bytes "(take-out 1)" ∷ []) ++ bytes "(asked)") ≡ page (bytes "(declined 14 0)" ∷ bytes "(malformed 2)" ∷ [])
 unfolding lines doubles fits runs
 unended_line = refl
 
-transcript : output_of built_in
+transcript : output_of
     (page
     (bytes "(entered 409f400000000000 3fd3333333333333)"
     ∷ bytes "(shot 4059000000000000 4024000000000000 3ff0000000000000)"
@@ -67,7 +66,7 @@ unfolding lines doubles fits runs
 transcript = refl
 
 -- and some of its replies
-replies : output_of built_in (page
+replies : output_of (page
     (bytes "(entered 409f400000000000 3fd3333333333333)"
     ∷ bytes "(shot 4059000000000000 4024000000000000 3ff0000000000000)"
     ∷ bytes "(shot 4069000000000000 4026000000000000 3ff0000000000000)"

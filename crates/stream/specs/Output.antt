@@ -3,7 +3,6 @@
 use Rattle.std.specs.Prelude.{ℕ, cond, List, [], ◌∷◌, ◌++◌, eqb}
 use Rattle.lines.specs.Lines.{form_of}
 use Rattle.report_text.specs.Writing.{Text}
-use Rattle.definition.specs.Coverage.{Table}
 use Rattle.conversation.specs.Conversation.{Conversation, initial, next_line, answer_to, text_of, unended_text}
 
 -- a byte in front of the first line, or of what follows the last line feed
@@ -28,9 +27,8 @@ abbrev pub unended : Conversation → List ℕ → Text
 unended t [] = []
 unended t (c ∷ l) = unended_text t
 
--- under a coverage table
-unfoldable pub output_of : Table → List ℕ → List ℕ
-output_of table s =
+unfoldable pub output_of : List ℕ → List ℕ
+output_of s =
     let ls = lines_of s in
-    let a = answers_to (initial table) ls.0 in
+    let a = answers_to initial ls.0 in
     a.1 ++ unended a.0 ls.1

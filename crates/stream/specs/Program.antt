@@ -2,7 +2,6 @@
 -- `finish`.
 use Rattle.std.specs.Prelude.{◌≡◌, List, [], ◌∷◌, ◌++◌, ℕ, ◌≤◌, length, take}
 use Rattle.report_text.specs.Writing.{Text}
-use Rattle.definition.specs.Coverage.{Table}
 use Rattle.conversation.specs.Conversation.{initial}
 use Rattle.stream.specs.Output.{output_of}
 use Rattle.stream.specs.Bytes.{Holds, Feeds, Finishes}
@@ -54,8 +53,8 @@ all_written [] = []
 all_written (p ∷ ps) = written p.calls ++ all_written ps
 
 -- Theorem `output`: however the input is cut into pieces, what is written for it, from a state that `begin` gave to what `finish` leaves, is what the
--- definition says, under the table that `begin` was handed.
+-- definition says.
 abbrev pub Output : Type 0
 Output =
-    (table : Table) (h : State) → Holds h (initial table) [] → (ps : List Piece) → InputFed h ps → (out after : Text) (n : ℕ) → Finishes (last_state h ps) out after n
-    → all_written ps ++ take n after ≡ output_of table (input ps)
+    (h : State) → Holds h initial [] → (ps : List Piece) → InputFed h ps → (out after : Text) (n : ℕ) → Finishes (last_state h ps) out after n
+    → all_written ps ++ take n after ≡ output_of (input ps)

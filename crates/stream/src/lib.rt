@@ -2,12 +2,10 @@
 ghost use Rattle.std.specs.Prelude.{◌≡◌, List, [], ℕ, take};
 ghost use Rattle.lines.specs.Lines.{form_of};
 ghost use Rattle.lines.specs.Reading.{form_in, short};
-ghost use Rattle.coverage.specs.Table.{rows_in};
 ghost use Rattle.conversation.specs.Conversation.{initial};
 ghost use Rattle.stream.specs.Bytes.{Reads, Scans, Holds, Feeds, Finishes};
 
 use conversation::Conversation;
-use coverage::Table;
 use lines::Line;
 
 // The line that is being read: its words so far and the one that is being read, whether that is the first, and whether the line has a byte. A word of a form
@@ -119,17 +117,17 @@ pub struct Fed {
     pub len: usize,
 }
 
-pub fn begin(table: Table) -> State
-    ensures { Holds result (initial (rows_in table)) [] }
+pub fn begin() -> State
+    ensures { Holds result initial [] }
 {
     State {
         reader: blank_reader(),
-        conversation: conversation::start(table),
+        conversation: conversation::start(),
     }
 }
 
 // Bytes from `at` on, up to the end of a line at most: where to go on, and how many bytes are written.
-pub fn feed(t: State, bytes: &[u8], at: usize, out: &mut [u8; 131072]) -> Fed
+pub fn feed(t: State, bytes: &[u8], at: usize, out: &mut [u8; 32768]) -> Fed
     ensures { Feeds t bytes.now at out.old out.new result }
 {
     let reader = t.reader;
@@ -160,7 +158,7 @@ pub fn feed(t: State, bytes: &[u8], at: usize, out: &mut [u8; 131072]) -> Fed
 }
 
 // The input ends: a line without its line feed is malformed.
-pub fn finish(t: State, out: &mut [u8; 131072]) -> usize
+pub fn finish(t: State, out: &mut [u8; 32768]) -> usize
     ensures { Finishes t out.old out.new result }
 {
     let reader = t.reader;

@@ -89,7 +89,7 @@ fn dominated(prior: Prior, variance: f64) -> bool
     }
 }
 
-pub fn crosses_bounds(mv: GaussianIntervalV1, bc: GaussianIntervalV1) -> bool
+fn crosses_bounds(mv: GaussianIntervalV1, bc: GaussianIntervalV1) -> bool
     ensures { result ≡ crosses_bounds_of mv bc }
 {
     (mv.lower < criteria::TRUING_MV_MIN_FPS)

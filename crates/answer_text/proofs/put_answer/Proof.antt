@@ -1,8 +1,7 @@
 -- `put_answer`: by what is said.
 use borrow.Author.Rules.{rules}
 use mathlib.Core.Path.{sym, ap}
-use Rattle.coverage.specs.Table.{rows_in}
-use Rattle.covered_report.specs.Reading.{covered_in}
+use Rattle.report.specs.Reading.{report_in}
 use Rattle.definition.specs.declared.Step.{Step}
 use Rattle.editing.specs.Meaning.{state}
 use Rattle.report_text.proofs.Writing.{as_text, same_room}
@@ -35,9 +34,8 @@ returns : tie.Need-returns
 unfolding answer_text
 returns c =
     let step = c.before.before.before.before.before in
-    let args = step.before.before.before.before.args in
-    let a = args.a in
-    as_text c.before.before.put-question.ensures (sym (ap (λ (x : Step). said_text x (covered_in (rows_in args.table) (state a.session))) step.step.given.1))
+    let a = step.before.before.before.before.args.a in
+    as_text c.before.before.put-question.ensures (sym (ap (λ (x : Step). said_text x (report_in (state a.session))) step.step.given.1))
 
 same-length-2 : tie.Need-same-length-2
 same-length-2 c = same_room c.before.before.put-report.ensures
@@ -47,9 +45,8 @@ unfolding answer_text
 returns-2 c =
     let c1 = c.before.before.before.before in
     let c2 = c1.before.before.before.before in
-    let args = c2.args in
-    let a = args.a in
-    as_text c.before.before.put-report.ensures (sym (ap (λ (x : Step). said_text x (covered_in (rows_in args.table) (state a.session))) c1.enum_told.given.1))
+    let a = c2.args.a in
+    as_text c.before.before.put-report.ensures (sym (ap (λ (x : Step). said_text x (report_in (state a.session))) c1.enum_told.given.1))
 
 same-length-3 : tie.Need-same-length-3
 same-length-3 c = same_room c.before.before.put-declined.ensures
@@ -59,9 +56,8 @@ unfolding answer_text
 returns-3 c =
     let c1 = c.before.before.before.before.before in
     let c2 = c1.before.before.before.before in
-    let args = c2.args in
-    let a = args.a in
-    as_text c.before.before.put-declined.ensures (sym (ap (λ (x : Step). said_text x (covered_in (rows_in args.table) (state a.session))) c1.step2.given.1))
+    let a = c2.args.a in
+    as_text c.before.before.put-declined.ensures (sym (ap (λ (x : Step). said_text x (report_in (state a.session))) c1.step2.given.1))
 
 pub put_answer_spec : {M : Type 1} → statement M
 put_answer_spec =

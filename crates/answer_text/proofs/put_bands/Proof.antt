@@ -3,27 +3,27 @@ use borrow.Author.Rules.{rules}
 use Prim.Native.Nat.{ℕ, ◌-◌, ◌≤◌, ◌+◌}
 use mathlib.Core.Path.{◌≡◌, sym, ap, ◌∙◌}
 use mathlib.Core.List.{List, [], ◌∷◌, ◌++◌, map}
-use mathlib.Core.Option
+use mathlib.Core.Option.{Option, some}
 use native.Mathlib.Omega.{arith}
 use lib.ListN.{take}
-use Rattle.definition.specs.Coverage.{rows_under, band_by, CoveredBand}
+use Rattle.definition.specs.Summary.{Band, Report}
 use Rattle.report.specs.Places.{band_at_says}
-use Rattle.report.specs.declared.BandAt.{BandAt}
-use Rattle.coverage.specs.Table.{rows_in}
+use Rattle.editing.specs.Meaning.{state}
+use Rattle.report.specs.Reading.{report_in}
+use Rattle.answer_text.proofs.Laws.{place_list}
 use Rattle.report_text.specs.Writing.{Text, Writes}
 use Rattle.report_text.proofs.Writing.{then, as_text, same_room, within, nothing}
 use Rattle.report_text.specs.Texts.{joined, bracketed, band_text, bands_text}
 use Rattle.answer_text.specs.Answers.{bands_in}
-use Rattle.report_text.proofs.Laws.{item, all_taken}
-use Rattle.answer_text.proofs.Laws.{band_under}
+use Rattle.answer_text.proofs.Laws.{item, all_taken}
 use Rattle.answer_text.proofs.put_bands.Statement.{statement}
 use Rattle.answer_text.proofs.put_bands.Tie as tie
 
 abbrev invariant-loop : tie.invariant-loop
-invariant-loop out₀ at s n table next₀ i₀ out next i = (i ≤ n) × Writes out₀ next₀ out next (joined (map band_text (take i (bands_in (rows_in table) s))))
+invariant-loop out₀ at s n next₀ i₀ out next i = (i ≤ n) × Writes out₀ next₀ out next (joined (map band_text (take i (bands_in s))))
 
 abbrev decreases-loop : tie.decreases-loop
-decreases-loop out₀ at s n table next₀ i₀ out next i = n - i
+decreases-loop out₀ at s n next₀ i₀ out next i = n - i
 
 put-byte-requires : tie.Need-put-byte-requires invariant-loop decreases-loop
 put-byte-requires c κs = search rules
@@ -57,15 +57,13 @@ unfolding bands_text bracketed
 returns c =
     let a = c.before.before.before.before.before.before.before.before.before.before.before.before.before.before.args in
     let l = c.before.before.before.before.before.before.before.before.loop in
-    let t = rows_in a.table in
-    let xs = bands_in t a.s in
+    let xs = bands_in a.s in
     let e =
-    band_under t a.s l.i c.before.before.before.before.before.before.predictive-band.result
-    c.before.before.before.before.before.before.predictive-band.ensures.is
-    ∙ ap (λ (r : BandAt). Option.map (band_by (rows_under t)) (band_at_says r)) c.before.before.before.before.enum_told.given.1 in
+    sym (c.before.before.before.before.before.before.predictive-band.ensures.is ∙ place_list (λ p. p.bands) l.i (report_in (state a.s)))
+    ∙ ap band_at_says c.before.before.before.before.enum_told.given.1 in
     as_text (then c.before.before.before.before.before.before.before.before.before.before.before.put_byte.ensures
     (then l.invariant.1 c.before.before.put-byte2.ensures))
-    (ap (λ (m : List CoveredBand). bracketed (map band_text m)) (all_taken xs l.i a.n e (omega arith)))
+    (ap (λ (m : List Band). bracketed (map band_text m)) (all_taken xs l.i a.n e (omega arith)))
 
 put-next-band-requires : tie.Need-put-next-band-requires invariant-loop decreases-loop
 put-next-band-requires c κs = search rules
@@ -80,12 +78,11 @@ loop-again : tie.Need-loop-preserved invariant-loop decreases-loop
 loop-again c =
     let a = c.before.before.before.before.before.before.before.before.before.before.before.before.before.before.before.args in
     let l = c.before.before.before.before.before.before.before.before.before.loop in
-    let t = rows_in a.table in
-    let xs = bands_in t a.s in
+    let xs = bands_in a.s in
     let e =
-    band_under t a.s l.i c.before.before.before.before.before.before.before.predictive-band.result
-    c.before.before.before.before.before.before.before.predictive-band.ensures.is
-    ∙ ap (λ (r : BandAt). Option.map (band_by (rows_under t)) (band_at_says r)) c.before.before.before.before.before.found.given.1 in
+    sym
+    (c.before.before.before.before.before.before.before.predictive-band.ensures.is ∙ place_list (λ p. p.bands) l.i (report_in (state a.s)))
+    ∙ ap band_at_says c.before.before.before.before.before.found.given.1 in
     (omega arith, as_text (then l.invariant.1 c.before.before.put-next-band.ensures) (item band_text xs l.i _ e))
 
 put-byte-requires-3 : tie.Need-put-byte-requires-3 invariant-loop decreases-loop
@@ -102,8 +99,7 @@ unfolding bands_text bracketed
 returns-2 c =
     let a = c.before.before.before.before.before.before.before.before.before.before.before.args in
     let l = c.before.before.before.before.before.loop in
-    let t = rows_in a.table in
-    let xs = bands_in t a.s in
+    let xs = bands_in a.s in
     let k : l.i ≡ a.n = omega arith in
     as_text
     (then c.before.before.before.before.before.before.before.before.put_byte.ensures (then l.invariant.1 c.before.before.put-byte3.ensures))

@@ -2,8 +2,7 @@
 use borrow.Author.Rules.{rules}
 use mathlib.Core.Path.{sym, ap, subst}
 use Rattle.editing.specs.Meaning.{state}
-use Rattle.coverage.specs.Table.{rows_in}
-use Rattle.covered_report.specs.Reading.{covered_in, ShowsUnder}
+use Rattle.report.specs.Reading.{Shows, report_in}
 use Rattle.report.specs.declared.Shown.{Shown}
 use Rattle.report_text.proofs.Writing.{as_text, same_room}
 use Rattle.answer_text.specs.Answers.{standing_text}
@@ -36,29 +35,26 @@ returns : tie.Need-returns
 returns c =
     let c1 = c.before.before.before.before.before in
     let c2 = c1.before.before.before.before in
-    let t = rows_in c2.args.table in
     as_text c.before.before.put-bytes.ensures
     (sym (ap standing_text
-    (none_stands t (covered_in t (state c2.args.s))
-    (subst (λ (x : Shown). ShowsUnder t x (covered_in t (state c2.args.s))) c1.enum_told.given.1 c1.before.before.report.ensures.is))))
+    (none_stands (report_in (state c2.args.s))
+    (subst (λ (x : Shown). Shows x (report_in (state c2.args.s))) c1.enum_told.given.1 c1.before.before.report.ensures.is))))
 
 same-length-2 : tie.Need-same-length-2
 same-length-2 c =
     let c1 = c.before.before.before.before.before in
     let c2 = c1.before.before.before.before in
-    let t = rows_in c2.args.table in
     let s = c2.args.s in
     same_room
-    (one_stands t (covered_in t (state s)) _ (subst (λ (x : Shown). ShowsUnder t x (covered_in t (state s))) c1.h.given.1 c1.before.before.report.ensures.is)
+    (one_stands (report_in (state s)) _ (subst (λ (x : Shown). Shows x (report_in (state s))) c1.h.given.1 c1.before.before.report.ensures.is)
     c.before.before.put-shown.ensures)
 
 returns-2 : tie.Need-returns-2
 returns-2 c =
     let c1 = c.before.before.before.before.before in
     let c2 = c1.before.before.before.before in
-    let t = rows_in c2.args.table in
     let s = c2.args.s in
-    one_stands t (covered_in t (state s)) _ (subst (λ (x : Shown). ShowsUnder t x (covered_in t (state s))) c1.h.given.1 c1.before.before.report.ensures.is)
+    one_stands (report_in (state s)) _ (subst (λ (x : Shown). Shows x (report_in (state s))) c1.h.given.1 c1.before.before.report.ensures.is)
     c.before.before.put-shown.ensures
 
 pub put_report_spec : {M : Type 1} → statement M

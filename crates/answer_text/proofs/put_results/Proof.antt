@@ -12,7 +12,7 @@ use Rattle.report_text.specs.Writing.{Text, Writes}
 use Rattle.report_text.proofs.Writing.{then, as_text, same_room, within, nothing}
 use Rattle.report_text.specs.Texts.{joined, bracketed, result_text, results_text}
 use Rattle.answer_text.specs.Answers.{results_in}
-use Rattle.report_text.proofs.Laws.{item, all_taken}
+use Rattle.answer_text.proofs.Laws.{item, all_taken}
 use Rattle.answer_text.proofs.put_results.Statement.{statement}
 use Rattle.answer_text.proofs.put_results.Tie as tie
 

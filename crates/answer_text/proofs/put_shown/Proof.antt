@@ -1,7 +1,6 @@
 -- `put_shown`: part by part.
 use borrow.Author.Rules.{rules}
 use mathlib.Core.Path.{◌≡◌}
-use Rattle.coverage.specs.Table.{rows_in}
 use Rattle.report_text.proofs.Writing.{then, as_text, same_room}
 use Rattle.answer_text.proofs.Laws.{whole_text}
 use Rattle.answer_text.proofs.put_shown.Statement.{statement}
@@ -61,7 +60,7 @@ returns c =
     (then c5.put-baseline-head.ensures
     (then c4.put-baseline-list.ensures
     (then c3.put-baseline-end.ensures (then c2.put-middle.ensures (then c1.put-bands.ensures c.before.before.put-end.ensures)))))))
-    (whole_text (rows_in c8.args.table) c8.args.s c8.args.h p e d)
+    (whole_text c8.args.s c8.args.h p e d)
 
 pub put_shown_spec : {M : Type 1} → statement M
 put_shown_spec =

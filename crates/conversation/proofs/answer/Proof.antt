@@ -19,9 +19,9 @@ returns : tie.Need-returns
 returns c = record {
   room = same_room c.put-response.ensures;
   goes = λ t k.
-      let r = c.before.before.before.before.before.respond.ensures (next_line t) (c.before.before.before.before.before.before.next_line_lem.ensures t k) in (
+      let r = c.before.before.before.before.respond.ensures (next_line t) (c.before.before.before.before.before.next_line_lem.ensures t k) in (
         r.conversation,
-        answered_fills _ _ r.conversation c.before.before.before.before.before.respond.result.response _ r.says
+        answered_fills _ _ r.conversation c.before.before.before.before.respond.result.response _ r.says
             c.before.put-response-arg.given.0.1 c.put-response.ensures,
       );
 }

@@ -7,7 +7,7 @@ add-t4 : tie.Need-overflow-add-t4
 add-t4 c = search rules
 
 returns : tie.Need-returns
-returns c = λ u k. next_more c.before.before.before.before.args.t u k c.before.before.before.if1.true
+returns c = λ u k. next_more c.before.before.before.args.t u k c.before.before.if1.true
 
 returns-2 : tie.Need-returns-2
 returns-2 c = λ u k. next_full c.before.args.t u k c.if1.false

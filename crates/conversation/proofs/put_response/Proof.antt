@@ -1,4 +1,3 @@
-use Rattle.coverage.specs.Table.{rows_in}
 use Rattle.conversation.specs.Tracks.{response_text}
 use Rattle.report_text.proofs.Writing.{as_text, same_room}
 use mathlib.Core.Path.{sym, ap}
@@ -45,7 +44,7 @@ same_length c = search rules
 returns : tie.Need-returns
 returns c =
     as_text c.before.before.put-bytes.ensures
-    (sym (ap (response_text (rows_in c.before.before.before.before.before.before.before.before.args.table) c.before.before.before.before.before.before.before.before.args.session)
+    (sym (ap (response_text c.before.before.before.before.before.before.before.before.args.session)
     c.before.before.before.before.before.enum_told.given.1))
 
 same-length-2 : tie.Need-same-length-2
@@ -54,7 +53,7 @@ same-length-2 c = search rules
 returns-2 : tie.Need-returns-2
 returns-2 c =
     as_text c.before.before.put-malformed.ensures
-    (sym (ap (response_text (rows_in c.before.before.before.before.before.before.before.before.args.table) c.before.before.before.before.before.before.before.before.args.session)
+    (sym (ap (response_text c.before.before.before.before.before.before.before.before.args.session)
     c.before.before.before.before.before.response.given.1))
 
 same-length-3 : tie.Need-same-length-3
@@ -63,7 +62,7 @@ same-length-3 c = search rules
 returns-3 : tie.Need-returns-3
 returns-3 c =
     as_text c.before.before.put_count.ensures
-    (sym (ap (response_text (rows_in c.before.before.before.before.before.before.before.before.args.table) c.before.before.before.before.before.before.before.before.args.session)
+    (sym (ap (response_text c.before.before.before.before.before.before.before.before.args.session)
     c.before.before.before.before.before.response2.given.1))
 
 same-length-4 : tie.Need-same-length-4
@@ -72,7 +71,7 @@ same-length-4 c = search rules
 returns-4 : tie.Need-returns-4
 returns-4 c =
     as_text c.before.before.put-page.ensures
-    (sym (ap (response_text (rows_in c.before.before.before.before.before.before.before.args.table) c.before.before.before.before.before.before.before.args.session)
+    (sym (ap (response_text c.before.before.before.before.before.before.before.args.session)
     c.before.before.before.before.enum-told2.given.1))
 
 same-length-5 : tie.Need-same-length-5
@@ -81,7 +80,7 @@ same-length-5 c = search rules
 returns-5 : tie.Need-returns-5
 returns-5 c =
     as_text c.before.before.put_step.ensures
-    (sym (ap (response_text (rows_in c.before.before.before.before.before.before.before.before.args.table) c.before.before.before.before.before.before.before.before.args.session)
+    (sym (ap (response_text c.before.before.before.before.before.before.before.before.args.session)
     c.before.before.before.before.before.response3.given.1))
 
 pub put_response_spec : {M : Type 1} → statement M

@@ -22,7 +22,6 @@ returns c =
       request = q;
       session = (opened no_request c.before.opened.result
           (subst (λ (o : Opening). Opened o c.before.opened.result) q.same c.before.opened.ensures)).stands;
-      table = refl;
     }
 
 pub start_spec : {M : Type 1} → statement M

@@ -21,9 +21,9 @@ opened-requires c κs = search rules
 returns-2 : tie.Need-returns-2
 unfolding answer_to
 returns-2 c =
-    λ u k. timely k takes_distance (opens u) _ c.before.before.before.before.before.is-collecting.ensures
-    (not-false _ c.before.before.before.before.if1.false)
-    (open_responds c.before.before.before.before.before.before.args.t u k c.before.opened.result c.before.opened.ensures)
+    λ u k. timely k takes_distance (opens u) _ c.before.before.before.before.is-collecting.ensures
+    (not-false _ c.before.before.before.if1.false)
+    (open_responds c.before.before.before.before.before.args.t u k c.before.opened.result c.before.opened.ensures)
 
 pub take_open_spec : {M : Type 1} → statement M
 take_open_spec =

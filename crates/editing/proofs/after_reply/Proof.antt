@@ -63,7 +63,7 @@ returns-3 c =
     λ c₀ at point fits. stands_as c.closed-with2.ensures
     (reply_whole start.args.run start.args.change start.args.k start.args.p start.args.one c₀ at point fits
     at-changed.changed.result at-if1.if1.false at-if2.if2.false
-    (subst (λ x. Changed start.args.run (edit_of start.args.change) (rows_from x) at-changed.changed.result) at-row-of.row_of_lem.ensures
+    (subst (λ x. Changed start.args.run (edit_of start.args.change) (rows_from x) at-changed.changed.result) at-row-of.row_of.ensures
     at-changed.changed.ensures))
 
 pub after_reply_spec : {M : Type 1} → statement M

@@ -4,9 +4,7 @@ use mathlib.Core.Path.{sym, ap, ◌∙◌, subst}
 use native.Mathlib.Omega.{arith}
 use lib.ListN.{length}
 use Rattle.editing.specs.Meaning.{state}
-use Rattle.coverage.specs.Table.{rows_in}
-use Rattle.coverage.proofs.TableRows.{rows_most}
-use Rattle.covered_report.specs.Reading.{covered_in, ShowsUnder}
+use Rattle.report.specs.Reading.{Shows, report_in}
 use Rattle.report.specs.declared.Shown.{Shown}
 use Rattle.answer_text.proofs.Laws.{none_stands}
 use Rattle.answer_text.proofs.Fits.{shown_bounded}
@@ -28,20 +26,18 @@ add-result : tie.Need-overflow-add-result
 add-result c =
     let c1 = c.before.before.before.before.before in
     let c2 = c1.before in
-    let t = rows_in c2.args.table in
     let s = c2.args.s in
-    let k = counts_within t _ (covered_in t (state s)) (subst (λ (x : Shown). ShowsUnder t x (covered_in t (state s))) c.before.before.before.h.given.1
-    c1.report.ensures.is) (shown_bounded t (rows_most c2.args.table) s.run s.edit) in
+    let k = counts_within _ (report_in (state s)) (subst (λ (x : Shown). Shows x (report_in (state s))) c.before.before.before.h.given.1
+    c1.report.ensures.is) (shown_bounded s.run s.edit) in
     omega (arith, k.0)
 
 add-result-2 : tie.Need-overflow-add-result-2
 add-result-2 c =
     let c1 = c.before.before.before.before.before.before in
     let c2 = c1.before in
-    let t = rows_in c2.args.table in
     let s = c2.args.s in
-    let k = counts_within t _ (covered_in t (state s)) (subst (λ (x : Shown). ShowsUnder t x (covered_in t (state s))) c.before.before.before.before.h.given.1
-    c1.report.ensures.is) (shown_bounded t (rows_most c2.args.table) s.run s.edit) in
+    let k = counts_within _ (report_in (state s)) (subst (λ (x : Shown). Shows x (report_in (state s))) c.before.before.before.before.h.given.1
+    c1.report.ensures.is) (shown_bounded s.run s.edit) in
     omega (arith, k.0, k.1)
 
 warnings-requires : tie.Need-warnings-requires
@@ -52,29 +48,26 @@ add-result-3 c =
     let c1 = c.before.before.before.before.before in
     let c2 = c1.before.before in
     let c3 = c2.before in
-    let t = rows_in c3.args.table in
     let s = c3.args.s in
-    let k = counts_within t _ (covered_in t (state s)) (subst (λ (x : Shown). ShowsUnder t x (covered_in t (state s))) c1.h.given.1 c2.report.ensures.is)
-    (shown_bounded t (rows_most c3.args.table) s.run s.edit) in
+    let k = counts_within _ (report_in (state s)) (subst (λ (x : Shown). Shows x (report_in (state s))) c1.h.given.1 c2.report.ensures.is)
+    (shown_bounded s.run s.edit) in
     omega (arith, k.0, k.1, k.2, c.warnings.ensures)
 
 returns : tie.Need-returns
 returns c =
-    let t = rows_in c.before.before.before.args.table in
     let s = c.before.before.before.args.s in
-    sym (ap (λ p. length (lines_in p)) (none_stands t (covered_in t (state s))
-    (subst (λ (x : Shown). ShowsUnder t x (covered_in t (state s))) c.enum_told.given.1 c.before.before.report.ensures.is)))
+    sym (ap (λ p. length (lines_in p)) (none_stands (report_in (state s))
+    (subst (λ (x : Shown). Shows x (report_in (state s))) c.enum_told.given.1 c.before.before.report.ensures.is)))
 
 returns-2 : tie.Need-returns-2
 returns-2 c =
     let c1 = c.before.before.before.before.before in
     let c2 = c1.before.before in
     let c3 = c2.before in
-    let t = rows_in c3.args.table in
     let s = c3.args.s in
     omega (
       arith,
-      lines_are t _ (covered_in t (state s)) (subst (λ (x : Shown). ShowsUnder t x (covered_in t (state s))) c1.h.given.1
+      lines_are _ (report_in (state s)) (subst (λ (x : Shown). Shows x (report_in (state s))) c1.h.given.1
           c2.report.ensures.is),
       c.warnings.ensures,
     )

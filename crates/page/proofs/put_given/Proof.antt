@@ -1,6 +1,5 @@
 -- `page::put_given` meets its contract. Assumes nothing.
 use borrow.Author.Rules.{rules}
-use Rattle.coverage.specs.Table.{rows_in}
 use Rattle.page.proofs.Laws.{whole_page}
 use Rattle.report_text.proofs.Writing.{then, as_text, same_room}
 use Rattle.page.proofs.put_given.Statement.{statement}
@@ -30,10 +29,10 @@ returns c =
     let c1 = c.before.before.before.before.before.before in
     let c2 = c1.before.before.before.before in
     let c3 = c2.before.before.before.before in
-    let a = c3.before.before.before.before.args in
     λ p e d. as_text (then c3.put-head.ensures (then c2.put-shots.ensures (then c1.put-bands.ensures
     c.before.before.put-warnings.ensures))) (whole_page
-    (rows_in a.table) a.s a.h p e d)
+    c.before.before.before.before.before.before.before.before.before.before.before.before.before.before.before.before.before.before.args.s
+    c.before.before.before.before.before.before.before.before.before.before.before.before.before.before.before.before.before.before.args.h p e d)
 
 pub put_given_spec : {M : Type 1} → statement M
 put_given_spec =

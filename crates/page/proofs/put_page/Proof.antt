@@ -2,8 +2,7 @@
 use borrow.Author.Rules.{rules}
 use mathlib.Core.Path.{sym, ap, subst}
 use Rattle.editing.specs.Meaning.{state}
-use Rattle.coverage.specs.Table.{rows_in}
-use Rattle.covered_report.specs.Reading.{covered_in, ShowsUnder}
+use Rattle.report.specs.Reading.{Shows, report_in}
 use Rattle.report.specs.declared.Shown.{Shown}
 use Rattle.report_text.proofs.Writing.{as_text, same_room}
 use Rattle.answer_text.proofs.Laws.{none_stands}
@@ -38,21 +37,19 @@ returns c =
     let c1 = c.before.before.before.before.before in
     let c2 = c1.before.before in
     let c3 = c2.before.before in
-    let t = rows_in c3.args.table in
     let s = c3.args.s in
     as_text c.before.before.put-bytes.ensures
-    (sym (ap page_in (none_stands t (covered_in t (state s))
-    (subst (λ (x : Shown). ShowsUnder t x (covered_in t (state s))) c1.enum_told.given.1 c2.report.ensures.is))))
+    (sym (ap page_in (none_stands (report_in (state s))
+    (subst (λ (x : Shown). Shows x (report_in (state s))) c1.enum_told.given.1 c2.report.ensures.is))))
 
 same-length-2 : tie.Need-same-length-2
 same-length-2 c =
     let c1 = c.before.before.before.before.before in
     let c2 = c1.before.before in
     let c3 = c2.before.before in
-    let t = rows_in c3.args.table in
     let s = c3.args.s in
-    same_room (one_stands t _ (covered_in t (state s))
-    (subst (λ (x : Shown). ShowsUnder t x (covered_in t (state s))) c1.h.given.1 c2.report.ensures.is)
+    same_room (one_stands _ (report_in (state s))
+    (subst (λ (x : Shown). Shows x (report_in (state s))) c1.h.given.1 c2.report.ensures.is)
     c.before.before.put-given.ensures)
 
 returns-2 : tie.Need-returns-2
@@ -60,10 +57,9 @@ returns-2 c =
     let c1 = c.before.before.before.before.before in
     let c2 = c1.before.before in
     let c3 = c2.before.before in
-    let t = rows_in c3.args.table in
     let s = c3.args.s in
-    one_stands t _ (covered_in t (state s))
-    (subst (λ (x : Shown). ShowsUnder t x (covered_in t (state s))) c1.h.given.1 c2.report.ensures.is)
+    one_stands _ (report_in (state s))
+    (subst (λ (x : Shown). Shows x (report_in (state s))) c1.h.given.1 c2.report.ensures.is)
     c.before.before.put-given.ensures
 
 pub put_page_spec : {M : Type 1} → statement M

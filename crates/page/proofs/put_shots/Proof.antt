@@ -12,8 +12,7 @@ use Rattle.editing.specs.Meaning.{state}
 use Rattle.report_text.specs.Writing.{Writes}
 use Rattle.report_text.proofs.Writing.{then, as_text, same_room, within, nothing}
 use Rattle.answer_text.specs.Answers.{results_in}
-use Rattle.report_text.proofs.Laws.{all_taken}
-use Rattle.answer_text.proofs.Laws.{place_list}
+use Rattle.answer_text.proofs.Laws.{place_list, all_taken}
 use Rattle.page_text.specs.Page.{shot_line, joined_lines}
 use Rattle.page.proofs.Laws.{next_line_lem}
 use Rattle.page.proofs.put_shots.Statement.{statement}

@@ -11,10 +11,10 @@ enum_told : tie.Need-enum-told
 enum_told c = search rules
 
 returns : tie.Need-returns
-returns c t = simp c.before.before.a.given.1
+returns c = simp c.before.before.a.given.1
 
 returns-2 : tie.Need-returns-2
-returns-2 c t = simp c.enum_told.given.1
+returns-2 c = simp c.enum_told.given.1
 
 pub coefficient_interval_spec : {M : Type 1} → statement M
 coefficient_interval_spec = tie.close (tie.spec enum-known-a enum_told returns returns-2)

@@ -28,7 +28,7 @@ unfolding coefficient_line
 returns c =
     let c1 = c.before.before.before.before.before in
     let c2 = c1.before in
-    as_text c.before.before.put-row.ensures (by_ends _ _ (c1.ends_of.ensures ∙ ap ends_of (c2.coefficient-interval.ensures _)))
+    as_text c.before.before.put-row.ensures (by_ends _ _ (c1.ends_of.ensures ∙ ap ends_of c2.coefficient-interval.ensures))
 
 pub put_coefficient_spec : {M : Type 1} → statement M
 put_coefficient_spec =

@@ -16,14 +16,14 @@ put-covariance-requires c κs = search rules
 put-byte-requires : tie.Need-put-byte-requires
 put-byte-requires c κs = search rules
 
-put-rows-requires : tie.Need-put-rows-requires
-put-rows-requires c κs = search rules
+put-gaussian-requires : tie.Need-put-gaussian-requires
+put-gaussian-requires c κs = search rules
 
 put-byte-requires-2 : tie.Need-put-byte-requires-2
 put-byte-requires-2 c κs = search rules
 
-put-rows-requires-2 : tie.Need-put-rows-requires-2
-put-rows-requires-2 c κs = search rules
+put-gaussian-requires-2 : tie.Need-put-gaussian-requires-2
+put-gaussian-requires-2 c κs = search rules
 
 led-double-requires : tie.Need-led-double-requires
 led-double-requires c κs = search rules
@@ -47,9 +47,9 @@ same_length c =
     same_room (then c8.put-start.ensures
     (then c7.put-covariance.ensures
     (then c6.put_byte.ensures
-    (then c5.put-rows.ensures
+    (then c5.put-gaussian.ensures
     (then c4.put-byte2.ensures
-    (then c3.put-rows2.ensures
+    (then c3.put-gaussian2.ensures
     (then c2.led-double.ensures (then c1.led-double2.ensures
     c.before.before.put-byte3.ensures))))))))
 
@@ -67,9 +67,9 @@ returns c =
     as_text (then c8.put-start.ensures
     (then c7.put-covariance.ensures
     (then c6.put_byte.ensures
-    (then c5.put-rows.ensures
+    (then c5.put-gaussian.ensures
     (then c4.put-byte2.ensures
-    (then c3.put-rows2.ensures
+    (then c3.put-gaussian2.ensures
     (then c2.led-double.ensures (then c1.led-double2.ensures
     c.before.before.put-byte3.ensures)))))))) (in_brackets _)
 
@@ -80,9 +80,9 @@ put_available_spec =
     put-start-requires
     put-covariance-requires
     put-byte-requires
-    put-rows-requires
+    put-gaussian-requires
     put-byte-requires-2
-    put-rows-requires-2
+    put-gaussian-requires-2
     led-double-requires
     led-double-requires-2
     put-byte-requires-3

@@ -14,8 +14,8 @@ put-word-requires c κs = search rules
 enum-known-i : tie.Need-enum-known-i
 enum-known-i c = search rules
 
-put-rows-requires : tie.Need-put-rows-requires
-put-rows-requires c κs = search rules
+put-gaussian-requires : tie.Need-put-gaussian-requires
+put-gaussian-requires c κs = search rules
 
 same_length : tie.Need-same-length
 same_length c = same_room c.before.before.put_word.ensures
@@ -25,11 +25,11 @@ unfolding word_at
 returns c = as_text c.before.before.put_word.ensures (simp c.before.before.before.before.enum_told.given.1)
 
 same-length-2 : tie.Need-same-length-2
-same-length-2 c = same_room c.before.before.put-rows.ensures
+same-length-2 c = same_room c.before.before.put-gaussian.ensures
 
 returns-2 : tie.Need-returns-2
 unfolding word_at
-returns-2 c = as_text c.before.before.put-rows.ensures (simp c.before.before.before.before.before.i.given.1)
+returns-2 c = as_text c.before.before.put-gaussian.ensures (simp c.before.before.before.before.before.i.given.1)
 
 pub put_interval_spec : {M : Type 1} → statement M
 put_interval_spec =
@@ -38,7 +38,7 @@ put_interval_spec =
     enum_told
     put-word-requires
     enum-known-i
-    put-rows-requires
+    put-gaussian-requires
     same_length
     returns
     same-length-2

@@ -44,9 +44,6 @@ loop-less c = search rules
 loop-again : tie.Need-loop-preserved invariant-loop decreases-loop
 loop-again c = tt
 
-single-requires : tie.Need-single-requires invariant-loop decreases-loop
-single-requires c κs = search rules
-
 put-answer-requires : tie.Need-put-answer-requires invariant-loop decreases-loop
 put-answer-requires c κs = search rules
 
@@ -73,7 +70,6 @@ run_spec =
     sub-left
     loop-less
     loop-again
-    single-requires
     put-answer-requires
     asked-requires
     returns)

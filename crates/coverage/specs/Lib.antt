@@ -1,4 +1,0 @@
-pub mod File
-pub mod Table
-pub mod Reading
-pub mod Loading
