@@ -1,4 +1,5 @@
 // The predictive band at one requested distance: the interval of the predicted drop, and that of a future observation.
+#![tactic(auto)]
 ghost use Rattle.std.specs.Prelude.{◌≡◌};
 ghost use Rattle.interval.specs.Interval.{says};
 ghost use Rattle.definition.specs.Summary.{band_variance_of, latent_of, future_of, latent_with, band_of};
@@ -13,7 +14,7 @@ use matrix::Symmetric2;
 // A negative variance counts as 0 down to this part of its larger part, or of 1.
 const VARIANCE_TOLERANCE: f64 = 1.0e-12;
 
-#[derive(Drop)]
+#[derive(Clone, Copy)]
 pub struct TruingPredictiveBandV1 {
     pub range_yd: f64,
     pub predicted_drop: f64,

@@ -1,4 +1,5 @@
 // The functions that C and Rust link.
+#![tactic(auto)]
 ghost use Rattle.std.specs.Prelude.{◌≡◌, ◌∷◌, [], ◌+◌, ◌*◌, ◌≤◌, ◌<◌, length, replicate};
 ghost use Rattle.root.specs.Root.{root_of};
 ghost use Rattle.numeric.specs.Numeric.{zero64};

@@ -1,4 +1,5 @@
 // The line protocol as steps: a line of the host leads to the conversation after it, and its answer is written into a lent buffer.
+#![tactic(auto)]
 ghost use Rattle.definition.specs.Request.{Opening};
 ghost use Rattle.definition.specs.Meaning.{number_of};
 ghost use Rattle.std.specs.Prelude.{◌≡◌};
@@ -22,7 +23,7 @@ use lines::{Line, ReadForm};
 use requests::Request;
 
 // The section that the request is in: none before (entered ..) and after (open plain). In each a line of a later one may come.
-#[derive(Drop)]
+#[derive(Clone, Copy)]
 pub enum Section {
     Closed,
     Shots,
@@ -31,7 +32,7 @@ pub enum Section {
 }
 
 // The conversation: the lines read, the request with its section, and the session.
-#[derive(Drop)]
+#[derive(Clone, Copy)]
 pub struct Conversation {
     lines: u64,
     section: Section,
@@ -40,7 +41,7 @@ pub struct Conversation {
 }
 
 // What is written to a line: nothing, that it is malformed, the count, the page, or the session's answer.
-#[derive(Drop)]
+#[derive(Clone, Copy)]
 pub enum Response {
     Nothing,
     Malformed(u64),
@@ -49,7 +50,7 @@ pub enum Response {
     Says(Step),
 }
 
-#[derive(Drop)]
+#[derive(Clone, Copy)]
 pub struct Responded {
     conversation: Conversation,
     response: Response,
@@ -380,7 +381,7 @@ fn put_response(out: &mut [u8], session: Session, response: Response) -> usize
 }
 
 // The conversation after a line, and how many bytes are answered.
-#[derive(Drop)]
+#[derive(Clone, Copy)]
 pub struct Replied {
     pub conversation: Conversation,
     pub len: usize,

@@ -1,36 +1,37 @@
 // The values that a request, a report and the pieces between them are made of.
+#![tactic(auto)]
 use interval::GaussianIntervalV1;
 use matrix::Symmetric2;
 
 // A speed in fps and a coefficient.
-#[derive(Drop)]
+#[derive(Clone, Copy)]
 pub struct Point {
     pub mv: f64,
     pub bc: f64,
 }
 
 // An explicit independent normal prior, in the parameter's own unit.
-#[derive(Drop)]
+#[derive(Clone, Copy)]
 pub struct NormalPriorV1 {
     pub mean: f64,
     pub sigma: f64,
 }
 
 // There are no hidden priors: an absent one adds nothing.
-#[derive(Drop)]
+#[derive(Clone, Copy)]
 pub enum Prior {
     Absent,
     Normal(NormalPriorV1),
 }
 
-#[derive(Drop)]
+#[derive(Clone, Copy)]
 pub struct TruingPriorsV1 {
     pub muzzle_velocity_fps: Prior,
     pub ballistic_coefficient: Prior,
 }
 
 // A drop and its slopes by speed and by coefficient, at one distance.
-#[derive(Drop)]
+#[derive(Clone, Copy)]
 pub struct Row {
     pub predicted_drop: f64,
     pub d_drop_d_mv: f64,
@@ -38,7 +39,7 @@ pub struct Row {
 }
 
 // What one reading of the observations adds up.
-#[derive(Drop)]
+#[derive(Clone, Copy)]
 pub struct Sums {
     pub a00: f64,
     pub a01: f64,
@@ -51,7 +52,7 @@ pub struct Sums {
 }
 
 // The posterior's information and gradient at a point, in scaled coordinates, with the data's part and its diagnostics.
-#[derive(Drop)]
+#[derive(Clone, Copy)]
 pub struct Evaluation {
     pub data_information: Symmetric2,
     pub posterior_information: Symmetric2,
@@ -64,7 +65,7 @@ pub struct Evaluation {
 }
 
 // Posterior covariance of (speed, coefficient), in their own units.
-#[derive(Drop)]
+#[derive(Clone, Copy)]
 pub struct TruingCovarianceV1 {
     pub mv_variance_fps2: f64,
     pub mv_bc_covariance_fps: f64,
@@ -72,7 +73,7 @@ pub struct TruingCovarianceV1 {
 }
 
 // The local Gaussian approximation around the fit.
-#[derive(Drop)]
+#[derive(Clone, Copy)]
 pub struct TruingGaussianApproximationV1 {
     pub covariance: TruingCovarianceV1,
     pub muzzle_velocity_interval_95: GaussianIntervalV1,
@@ -82,7 +83,7 @@ pub struct TruingGaussianApproximationV1 {
 }
 
 // An observation beside its prediction.
-#[derive(Drop)]
+#[derive(Clone, Copy)]
 pub struct WeightedTruingObservationResultV1 {
     pub range_yd: f64,
     pub observed_drop: f64,
@@ -93,14 +94,14 @@ pub struct WeightedTruingObservationResultV1 {
 }
 
 // Numerical criterion that verified the reported fit.
-#[derive(Drop)]
+#[derive(Clone, Copy)]
 pub enum TruingMapConvergenceCriterionV1 {
     ScaledGradient,
     ObjectiveMesh,
 }
 
 // Why the Gaussian approximation was withheld.
-#[derive(Drop)]
+#[derive(Clone, Copy)]
 pub enum TruingApproximationFailureCodeV1 {
     OptimizerDidNotConverge,
     MapAtParameterBound,
@@ -109,7 +110,7 @@ pub enum TruingApproximationFailureCodeV1 {
 }
 
 // The warnings, in the order in which they are pushed.
-#[derive(Drop)]
+#[derive(Clone, Copy)]
 pub enum TruingUncertaintyWarningCodeV1 {
     OptimizerDidNotConverge,
     ObjectiveMeshConvergence,
@@ -124,7 +125,7 @@ pub enum TruingUncertaintyWarningCodeV1 {
 }
 
 // Which distances a question is about: those of the observations, the requested ones, or the new one of an edit.
-#[derive(Drop)]
+#[derive(Clone, Copy)]
 pub enum Distances {
     Shots,
     Requested,
@@ -132,7 +133,7 @@ pub enum Distances {
 }
 
 // What a call yields: a question (a point, and which list of distances), a report, or a refusal with its number and position.
-#[derive(Drop)]
+#[derive(Clone, Copy)]
 pub enum Step {
     Question(f64, f64, Distances),
     Report,
@@ -140,14 +141,14 @@ pub enum Step {
 }
 
 // A double that may be absent.
-#[derive(Drop)]
+#[derive(Clone, Copy)]
 pub enum Number {
     Absent,
     Given(f64),
 }
 
 // How a fit was verified, if it was; the mesh with its final radius and the largest gain found there.
-#[derive(Drop)]
+#[derive(Clone, Copy)]
 pub enum Convergence {
     NotConverged,
     ScaledGradient,
@@ -155,7 +156,7 @@ pub enum Convergence {
 }
 
 // The approximation, or why it was withheld. The scaled covariance is kept beside it: the predictive bands are made from that one.
-#[derive(Drop)]
+#[derive(Clone, Copy)]
 pub enum TruingApproximationV1 {
     Available(TruingGaussianApproximationV1, Symmetric2),
     Unavailable(TruingApproximationFailureCodeV1),

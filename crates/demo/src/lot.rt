@@ -10,7 +10,7 @@ pub const TRUE_SPEED: f64 = 2750.0;
 pub const TRUE_COEFFICIENT: f64 = 0.31;
 
 // Distances in yards, drops in inches.
-#[derive(Drop)]
+#[derive(Clone, Copy)]
 pub struct Lot {
     pub ranges: [f64; 12],
     pub drops: [f64; 12],

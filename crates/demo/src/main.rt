@@ -1,5 +1,6 @@
 // A demonstration: fits a bundled lot of twelve shots over the demonstration solver, says in plain words what comes out, and shows the request and the
 // answer as lines of the protocol. It reads nothing.
+#![tactic(auto)]
 mod lot;
 mod meaning;
 mod protocol;

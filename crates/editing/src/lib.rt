@@ -1,5 +1,6 @@
 // A session whose requested distances can be edited once its run has ended. The run is a `session::Session`; an edit asks about its new distance alone and
 // then changes the list and the bands of the finished run, or leaves them as they were.
+#![tactic(auto)]
 ghost use Rattle.std.specs.Prelude.{◌≡◌, true, length};
 ghost use Rattle.std.proofs.Math.Option.{some};
 ghost use Rattle.definition.specs.Summary.{Finished};
@@ -26,26 +27,26 @@ use stencil::OneRow;
 pub const MAX_QUESTIONS: usize = 4_546;
 
 // An edit with a question open: the change that it makes, how many of the five questions have been answered, and its row.
-#[derive(Drop)]
+#[derive(Clone, Copy)]
 pub struct OpenEdit {
     change: Change,
     answered: usize,
     one: OneRow,
 }
 
-#[derive(Drop)]
+#[derive(Clone, Copy)]
 pub enum Editing {
     Closed,
     Asks(OpenEdit),
 }
 
-#[derive(Drop)]
+#[derive(Clone, Copy)]
 pub struct Session {
     run: session::Session,
     edit: Editing,
 }
 
-#[derive(Drop)]
+#[derive(Clone, Copy)]
 pub struct Answer {
     pub step: Step,
     pub session: Session,
@@ -106,7 +107,7 @@ fn asks(run: session::Session, asking: OpenEdit, p: Point) -> Answer
 // ---- an edit
 
 // The point of the fit, where an edit can have a question open.
-#[derive(Drop)]
+#[derive(Clone, Copy)]
 pub enum OpenPoint {
     Absent,
     Here(Point),

@@ -1,4 +1,5 @@
 // `fit_map` as steps between questions, on the numbers of a fit alone: which question comes next once an evaluation or an objective is there.
+#![tactic(auto)]
 ghost use Rattle.std.specs.Prelude.{◌≡◌};
 ghost use Rattle.fitting.specs.Meaning.{left_of, Moves, AfterRows, Blank, found_at, flat_at, iteration_at, candidate_at, polled_at, poll_at, start_at};
 ghost use Rattle.fitting.specs.Meaning.{after_trial, after_look};
@@ -17,7 +18,7 @@ const MAX_TRIALS: usize = 30;
 const FIRST_DAMPING: f64 = 1.0e-6;
 
 // What a fit holds between two questions.
-#[derive(Drop)]
+#[derive(Clone, Copy)]
 pub struct Progress {
     // the point with its objective, and the damping to go on with
     pub point: Point,
@@ -35,7 +36,7 @@ pub struct Progress {
 }
 
 // What the evaluation that is asked for is wanted for.
-#[derive(Drop)]
+#[derive(Clone, Copy)]
 pub enum Stage {
     Iteration,
     Final,
@@ -44,14 +45,14 @@ pub enum Stage {
 }
 
 // What is waited for: the five questions of an evaluation, or one objective.
-#[derive(Drop)]
+#[derive(Clone, Copy)]
 pub enum Wait {
     Evaluation(Stage),
     Trial(Point),
     Look(Point),
 }
 
-#[derive(Drop)]
+#[derive(Clone, Copy)]
 pub struct Moved {
     pub progress: Progress,
     pub wait: Wait,

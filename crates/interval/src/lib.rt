@@ -1,8 +1,9 @@
 // A two-sided interval from a Gaussian's variance.
+#![tactic(auto)]
 ghost use Rattle.std.specs.Prelude.{◌≡◌};
 ghost use Rattle.interval.specs.Interval.{says, level95, factor95, interval_of};
 
-#[derive(Drop)]
+#[derive(Clone, Copy)]
 pub struct GaussianIntervalV1 {
     pub estimate: f64,
     pub standard_deviation: f64,
@@ -11,7 +12,7 @@ pub struct GaussianIntervalV1 {
     pub probability: f64,
 }
 
-#[derive(Drop)]
+#[derive(Clone, Copy)]
 pub enum Interval {
     Present(GaussianIntervalV1),
     Absent,

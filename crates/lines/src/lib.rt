@@ -1,4 +1,5 @@
 // The lines that a host writes, read word by word in bounded memory: what a line is, is one of the protocol's forms.
+#![tactic(auto)]
 ghost use Rattle.std.specs.Prelude.{◌≡◌, List, ◌++◌, ◌+◌, ◌*◌, ◌≤◌, ◌<◌, eqb, length, drop};
 ghost use Rattle.std.proofs.Math.Option.{none, some};
 ghost use Rattle.std.specs.Float.{binary64};
@@ -15,13 +16,13 @@ ghost use Rattle.lines.specs.Reading.{session_in, named_in, form_in, end_of, tak
 use definition::Number;
 use numerals::{ReadCount, ReadDouble};
 
-#[derive(Drop)]
+#[derive(Clone, Copy)]
 enum ReadSigma {
     Malformed,
     Read(Number),
 }
 
-#[derive(Drop)]
+#[derive(Clone, Copy)]
 enum ReadEntry {
     Malformed,
     Missing,
@@ -29,7 +30,7 @@ enum ReadEntry {
 }
 
 // What a line is. The entries of `Drops` stand in the line's reply.
-#[derive(Drop)]
+#[derive(Clone, Copy)]
 pub enum ReadForm {
     Malformed,
     Entered(f64, f64),
@@ -48,7 +49,7 @@ pub enum ReadForm {
 }
 
 // A word, read in each way that a field can be: `word` is its place in the table of words.
-#[derive(Drop)]
+#[derive(Clone, Copy)]
 pub struct Reading {
     pub word: usize,
     pub double: ReadDouble,
@@ -56,7 +57,7 @@ pub struct Reading {
 }
 
 // The first four words of a line, and how many words there are, up to five.
-#[derive(Drop)]
+#[derive(Clone, Copy)]
 pub struct Fields {
     pub n: usize,
     pub first: Reading,
@@ -66,7 +67,7 @@ pub struct Fields {
 }
 
 // The words after the first, read as entries: the first n places. Not sound where one is no entry.
-#[derive(Drop)]
+#[derive(Clone, Copy)]
 pub struct Reply {
     pub drops: [f64; 65],
     pub missing: [bool; 65],
@@ -75,7 +76,7 @@ pub struct Reply {
 }
 
 // The words of a line that are read so far. Not sound where the line is malformed whatever follows.
-#[derive(Drop)]
+#[derive(Clone, Copy)]
 pub struct Line {
     pub sound: bool,
     pub fields: Fields,

@@ -1,5 +1,6 @@
 // The observations and the requested distances of a run, each list in the first places of arrays of 64; and changes of the requested distances and of their
 // rows.
+#![tactic(auto)]
 ghost use Rattle.std.specs.Prelude.{◌≡◌, ◌≤◌, ◌-◌, T, take};
 ghost use Rattle.definition.specs.Lists.{zip_with};
 ghost use Rattle.definition.specs.Whole.{edited, edited_numbers, edited_rows, placed};
@@ -11,7 +12,7 @@ use definition::{Number, Row};
 use stencil::StencilRows;
 
 // The observations, in the first n places.
-#[derive(Drop)]
+#[derive(Clone, Copy)]
 pub struct Shots {
     pub ranges: [f64; 64],
     pub drops: [f64; 64],
@@ -20,7 +21,7 @@ pub struct Shots {
 }
 
 // The requested distances, in the first n places. A sigma of 0 stands for none.
-#[derive(Drop)]
+#[derive(Clone, Copy)]
 pub struct Wanted {
     pub ranges: [f64; 64],
     pub sigmas: [f64; 64],
@@ -122,7 +123,7 @@ pub fn has_wanted(w: Wanted) -> bool
 // ---- a change of the requested distances
 
 // A requested distance put in at a place, taken out of it, or exchanged there; places are counted from 1. A sigma of 0 stands for none.
-#[derive(Drop)]
+#[derive(Clone, Copy)]
 pub enum Change {
     PutIn(usize, f64, f64),
     TakeOut(usize),

@@ -1,4 +1,5 @@
 // `fit_map` between its questions: the damped step, the damping, the gradient test, and which candidate is asked about next.
+#![tactic(auto)]
 ghost use Rattle.std.specs.Prelude.{◌≡◌};
 ghost use Rattle.definition.specs.Fit as fit;
 ghost use Rattle.map_fit.specs.Trials.{says, next_trial_of};
@@ -18,14 +19,14 @@ const LEAST_DETERMINANT: f64 = 1.0e-24;
 const LEAST_DAMPING: f64 = 1.0e-12;
 
 // A damped step: none where the determinant is unfit.
-#[derive(Drop)]
+#[derive(Clone, Copy)]
 pub enum Step {
     Unfit,
     To(Point),
 }
 
 // The next candidate with the trials left after it and its damping, or no trial is left.
-#[derive(Drop)]
+#[derive(Clone, Copy)]
 pub enum NextTrial {
     Candidate(Point, usize, f64),
     Exhausted,

@@ -1,15 +1,16 @@
 // A symmetric matrix of two rows: determinant, sum, inverse with its condition number, and the condition of its columns.
+#![tactic(auto)]
 ghost use Rattle.std.specs.Prelude.{◌≡◌};
 ghost use Rattle.matrix.specs.Matrix.{determinant_of, sum_of, entries_finite, largest_of, says, inverse_of, column_condition_of};
 
-#[derive(Drop)]
+#[derive(Clone, Copy)]
 pub struct Symmetric2 {
     pub a00: f64,
     pub a01: f64,
     pub a11: f64,
 }
 
-#[derive(Drop)]
+#[derive(Clone, Copy)]
 pub enum Inverse {
     Found { inverse: Symmetric2, condition: f64 },
     NonFiniteInformation,

@@ -1,4 +1,5 @@
 // Doubles and counts as they stand in a line, read from bytes and written as bytes; and a double's bits, whatever not-a-number it is.
+#![tactic(auto)]
 ghost use Rattle.std.specs.Prelude.{◌≡◌, List, ◌++◌, ◌+◌, ◌*◌, ◌≤◌, ◌<◌, length, drop};
 ghost use Rattle.std.proofs.Math.Option.{none, some};
 ghost use Rattle.std.specs.Float.{binary64};
@@ -12,20 +13,20 @@ const INFINITY: u64 = 0x7ff0_0000_0000_0000;
 
 const NAN: u64 = 0x7ff8_0000_0000_0000;
 
-#[derive(Drop)]
+#[derive(Clone, Copy)]
 pub enum ReadDouble {
     Malformed,
     Double(f64),
 }
 
-#[derive(Drop)]
+#[derive(Clone, Copy)]
 pub enum ReadCount {
     Malformed,
     Count(u64),
 }
 
 // A count's digits: the first `len` bytes.
-#[derive(Drop)]
+#[derive(Clone, Copy)]
 pub struct CountText {
     pub digits: [u8; 20],
     pub len: usize,

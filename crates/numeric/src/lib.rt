@@ -1,5 +1,6 @@
 // Operations on doubles that the language has no operator for, each by IEEE 754's cases: finite, absolute value, max, clamp, hypot, the poll direction
 // and the drop units.
+#![tactic(auto)]
 ghost use Rattle.std.specs.Prelude.{◌≡◌, false};
 ghost use Rattle.std.specs.Float.{inf};
 ghost use Rattle.numeric.specs.Numeric.{finite, abs_of, max_of, clamp_of, scaled_of, hypot_of};
@@ -86,7 +87,7 @@ pub fn hypot(x: f64, y: f64) -> f64
 }
 
 // A direction in the plane of scaled speed and coefficient.
-#[derive(Drop)]
+#[derive(Clone, Copy)]
 pub struct Direction {
     pub cos: f64,
     pub sin: f64,
@@ -111,7 +112,7 @@ pub fn poll_direction(a00: f64, a01: f64, a11: f64) -> Direction
 }
 
 // The unit in which a drop is given.
-#[derive(Drop)]
+#[derive(Clone, Copy)]
 pub enum DropUnit {
     Mil,
     Moa,

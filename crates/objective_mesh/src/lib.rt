@@ -1,4 +1,5 @@
 // `polish_and_verify_objective_mesh` between its questions: the poll's directions and candidates, and which comes next.
+#![tactic(auto)]
 ghost use Rattle.std.specs.Prelude.{◌≡◌, drop, get_or};
 ghost use Rattle.definition.specs.Mesh as mesh;
 ghost use Rattle.objective_mesh.specs.Meaning.{last_direction, pass_of, poll_of, looks_as, says, seen_within};
@@ -21,7 +22,7 @@ pub const MAP_OBJECTIVE_MAX_POLL_EVALUATIONS: usize = 1_024;
 const DIRECTIONS: usize = 8;
 
 // What the poll comes to.
-#[derive(Drop)]
+#[derive(Clone, Copy)]
 pub struct Poll {
     pub point: Point,
     pub convergence: Convergence,
@@ -30,7 +31,7 @@ pub struct Poll {
 
 // A pass: its radius and how many smaller ones are to come, its centre with the objective there, the index of the first direction not yet looked at, and
 // the best seen so far.
-#[derive(Drop)]
+#[derive(Clone, Copy)]
 pub struct Pass {
     pub axis: Direction,
     pub radius: f64,
@@ -44,14 +45,14 @@ pub struct Pass {
 }
 
 // The next direction that leads to another point than the centre: the candidate, and the index of the direction after it.
-#[derive(Drop)]
+#[derive(Clone, Copy)]
 pub enum Looked {
     Moved(Point, usize),
     NoneMoved,
 }
 
 // What comes next in the poll: a candidate to be evaluated, or its end.
-#[derive(Drop)]
+#[derive(Clone, Copy)]
 pub enum PollStep {
     Evaluates(Point, Pass),
     Ended(Poll),

@@ -1,4 +1,5 @@
 // The opening's checks, refusals 1 to 7: the tests of an entered point, observations, priors and requested distances, and their order.
+#![tactic(auto)]
 ghost use Rattle.std.specs.Prelude.{◌≡◌};
 ghost use Rattle.definition.specs.Lists.{first_at};
 ghost use Rattle.definition.specs.Whole.{within_of, positive_of, sound_observation_of, faulty_observation, sound_prior_of, sound_sigma, sound_requested_of};
@@ -9,7 +10,7 @@ ghost use Rattle.opening.specs.Opening.{wanted_at, requested_from, measured_from
 use definition::{Number, Point, Prior, TruingPriorsV1};
 
 // What a check comes to: sound, or a refusal's number and position.
-#[derive(Drop)]
+#[derive(Clone, Copy)]
 pub enum Checked {
     Sound,
     Faulty(usize, usize),

@@ -1,4 +1,5 @@
 // Reads doubles, a line of the 16 hexadecimal digits of its bits each, and writes the 14 columns that a page has for each. A line of another form ends it.
+#![tactic(auto)]
 use libc::{STDIN_FILENO, STDOUT_FILENO};
 use numerals::ReadDouble;
 

@@ -1,4 +1,5 @@
 // The page for the counter, written into a lent buffer line by line: each function writes from a position on and gives the next one.
+#![tactic(auto)]
 ghost use Rattle.std.specs.Prelude.{◌≡◌, cond, [], ◌++◌, map, ◌+◌, ◌-◌, ◌*◌, ◌≤◌, ◌<◌, length};
 ghost use Rattle.interval.specs.Interval.{says};
 ghost use Rattle.definition.specs.Meaning.{approximation_says};
@@ -20,7 +21,7 @@ use thousandths::Shown;
 use warnings::Warnings;
 
 // What stands in 14 columns: nothing, a mark in place of a missing number, or a number.
-#[derive(Drop)]
+#[derive(Clone, Copy)]
 pub enum Cell {
     Blank,
     Mark(u8),
@@ -28,7 +29,7 @@ pub enum Cell {
 }
 
 // The ends of an interval.
-#[derive(Drop)]
+#[derive(Clone, Copy)]
 pub struct Ends {
     pub lower: Cell,
     pub upper: Cell,

@@ -1,4 +1,5 @@
 // Which question of a run is open, what it wants of a reply, and where a taken reply leads: on the numbers of the fit alone, without the run's lists.
+#![tactic(auto)]
 ghost use Rattle.std.specs.Prelude.{◌≡◌};
 ghost use Rattle.phases.specs.Phases.{is_at_fit, nothing_asked, objective_asked, five_asked, plan_of, asks_at, stops_at, Waits, Judges, at_fit_at, Evaluates};
 ghost use Rattle.phases.specs.Phases.{Fives, five_bands_at, Takes};
@@ -7,7 +8,7 @@ use definition::{Distances, Evaluation, Point, Step};
 use fitting::{Moved, Progress, Stage, Wait};
 
 // Which question is open, if one is.
-#[derive(Drop)]
+#[derive(Clone, Copy)]
 pub enum Phase {
     Over,
     Start,
@@ -20,7 +21,7 @@ pub enum Phase {
 }
 
 // What a phase wants of a reply. Every call reads the phase through it.
-#[derive(Drop)]
+#[derive(Clone, Copy)]
 pub struct Plan {
     // a question is open; it is about the requested distances, else about the observations
     pub asks: bool,
@@ -38,7 +39,7 @@ pub struct Plan {
 }
 
 // What a taken reply leads to: the numbers of the fit, which question is open then, and what is said.
-#[derive(Drop)]
+#[derive(Clone, Copy)]
 pub struct Next {
     pub progress: Progress,
     pub phase: Phase,

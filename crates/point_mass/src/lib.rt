@@ -1,5 +1,6 @@
 // A flight solver for demonstrations, and no part of the estimator: it lets a fit be run without a host's own solver. A point mass is fired horizontally; drag
 // and gravity act on it in steps of a fixed time. The answer at a distance depends on the point and that distance alone, whatever else is asked about.
+#![tactic(auto)]
 ghost use Rattle.std.specs.Prelude.{◌≡◌};
 ghost use Rattle.definition.specs.Run.{is_missing, drop_or0};
 ghost use Rattle.definition.specs.Whole.{within_of};
@@ -41,7 +42,7 @@ const METRES_PER_YARD: f64 = 0.9144;
 const METRES_PER_FOOT: f64 = 0.3048;
 
 // Where the slug is, in feet forward and down, and its speeds that way, in feet per second.
-#[derive(Drop)]
+#[derive(Clone, Copy)]
 pub struct Flight {
     x: f64,
     y: f64,
@@ -50,7 +51,7 @@ pub struct Flight {
 }
 
 // What the solver says at one distance: that the slug does not get there, or its drop.
-#[derive(Drop)]
+#[derive(Clone, Copy)]
 pub enum Entry {
     Missing,
     Drop(f64),

@@ -1,10 +1,11 @@
 // The objective's sum over a lent list of records, each read where it lies.
+#![tactic(auto)]
 ghost use Rattle.std.specs.Prelude.{◌≡◌, map};
 ghost use Rattle.definition.specs.Likelihood.{with_shot, chi_square_of};
 ghost use Rattle.records.specs.Records.{observation_in};
 
 // An observation: distance in yards, drop and its sigma in the run's unit.
-#[derive(Drop)]
+#[derive(Clone, Copy)]
 pub struct WeightedTruingObservationV1 {
     pub range_yd: f64,
     pub drop: f64,

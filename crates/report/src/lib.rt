@@ -1,4 +1,5 @@
 // The report of a finished fit: its head, and each place of its lists.
+#![tactic(auto)]
 ghost use Rattle.std.specs.Prelude.{◌≡◌, ◌-◌};
 ghost use Rattle.definition.specs.Lists.{zip_with, zip_with3};
 ghost use Rattle.definition.specs.Likelihood.{row_of};
@@ -16,14 +17,14 @@ use summary::TruingUncertaintyDiagnosticsV1;
 use warnings::Warnings;
 
 // The entered point with its chi-square; its observation results stand beside it.
-#[derive(Drop)]
+#[derive(Clone, Copy)]
 pub struct TruingBaselineV1 {
     pub muzzle_velocity_fps: f64,
     pub ballistic_coefficient: f64,
     pub chi_square: f64,
 }
 
-#[derive(Drop)]
+#[derive(Clone, Copy)]
 pub enum Baseline {
     Absent,
     Given(TruingBaselineV1),
@@ -31,7 +32,7 @@ pub enum Baseline {
 
 // The report but for its lists of observation results, of the baseline's and of predictive bands, which stand beside it: the first and the last by their
 // lengths.
-#[derive(Drop)]
+#[derive(Clone, Copy)]
 pub struct UncertaintyTruingReportV1 {
     pub schema_version: u32,
     pub map_muzzle_velocity_fps: f64,
@@ -48,7 +49,7 @@ pub struct UncertaintyTruingReportV1 {
 }
 
 // The report that stands, but for its lists, which are read place by place; or that none stands.
-#[derive(Drop)]
+#[derive(Clone, Copy)]
 pub enum Shown {
     Absent,
     Given(UncertaintyTruingReportV1),
@@ -132,7 +133,7 @@ fn sigma_of(x: f64) -> Number
     Number::Absent
 }
 
-#[derive(Drop)]
+#[derive(Clone, Copy)]
 pub enum ResultAt {
     Absent,
     Given(WeightedTruingObservationResultV1),
@@ -167,7 +168,7 @@ pub fn result_at<'a>(
     ResultAt::Given(summary::observation_result(range, drop, sigma, x))
 }
 
-#[derive(Drop)]
+#[derive(Clone, Copy)]
 enum RowAt {
     Absent,
     Given(Row),
@@ -196,7 +197,7 @@ fn row_at<'a>(i: usize, predicted: &'a [f64], by_mv: &'a [f64], by_bc: &'a [f64]
     })
 }
 
-#[derive(Drop)]
+#[derive(Clone, Copy)]
 pub enum BandAt {
     Absent,
     Given(TruingPredictiveBandV1),

@@ -1,4 +1,5 @@
 // The request that a host is making, line by line, in bounded memory: of each list the first 65 are kept.
+#![tactic(auto)]
 ghost use Rattle.std.specs.Prelude.{◌≡◌, take};
 ghost use Rattle.definition.specs.Request.{Opening};
 ghost use Rattle.opening.specs.Opening.{wanted_at};
@@ -12,7 +13,7 @@ use definition::{NormalPriorV1, Number, Point, Prior, TruingPriorsV1};
 use editing::Answer;
 
 // The request so far. Of each list the first 65 are kept: with more than 64 the opening is refused whatever they are.
-#[derive(Drop)]
+#[derive(Clone, Copy)]
 pub struct Request {
     entered: Point,
     ranges: [f64; 65],

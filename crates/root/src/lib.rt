@@ -1,5 +1,6 @@
 // The square root of a double, by whole numbers: the input as m * 2 ^ e, then 53 digits of the root, rounded.
 // A guess by float arithmetic is taken where a test over whole numbers says that it is the nearest. Else the digits are found one by one.
+#![tactic(auto)]
 ghost use Rattle.std.specs.Prelude.{◌≡◌, true, ◌+◌, ◌*◌, ◌/◌, ◌%◌, ◌^◌, ◌<◌, ◌≤◌};
 ghost use Rattle.std.specs.Float.{binary64};
 ghost use Rattle.std.specs.Float.Ieee.{of_bits};
@@ -24,7 +25,7 @@ const ONE: u64 = 0x3ff0_0000_0000_0000;
 const TWO: u64 = 0x4000_0000_0000_0000;
 
 // The number m * 2 ^ e.
-#[derive(Drop)]
+#[derive(Clone, Copy)]
 struct Number {
     m: u64,
     e: u64,

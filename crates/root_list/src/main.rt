@@ -1,4 +1,5 @@
 // Reads doubles, a line of the 16 hexadecimal digits of its bits each, and writes each one's root so. A line of another form ends it.
+#![tactic(auto)]
 use libc::{STDIN_FILENO, STDOUT_FILENO};
 use numerals::ReadDouble;
 

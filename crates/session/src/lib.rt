@@ -1,4 +1,5 @@
 // The session: opening and replying. It holds the request and what a run has come to so far; each call yields a question, a report or a refusal.
+#![tactic(auto)]
 ghost use Rattle.std.specs.Prelude.{◌≡◌, cond, ◌&&◌, leb, eqb, take};
 ghost use Rattle.numeric.specs.Numeric.{zero64, finite};
 ghost use Rattle.definition.specs.Lists.{zip_with3};
@@ -21,7 +22,7 @@ use report::{BandAt, ResultAt, Shown};
 use stencil::StencilRows;
 
 // All of a session but which question is open.
-#[derive(Drop)]
+#[derive(Clone, Copy)]
 pub struct Body {
     shots: Shots,
     entered: Point,
@@ -35,14 +36,14 @@ pub struct Body {
     has_baseline: bool,
 }
 
-#[derive(Drop)]
+#[derive(Clone, Copy)]
 pub struct Session {
     body: Body,
     phase: Phase,
     asked: u64,
 }
 
-#[derive(Drop)]
+#[derive(Clone, Copy)]
 pub struct Answer {
     pub step: Step,
     pub session: Session,
@@ -482,7 +483,7 @@ pub fn predictive_band(s: Session, i: usize) -> BandAt
 // ---- changing the requested distances of a finished run
 
 // The point of the fit and the number of requested distances, where a finished run stands.
-#[derive(Drop)]
+#[derive(Clone, Copy)]
 pub enum Fitted {
     Unfitted,
     FittedAt(Point, usize),

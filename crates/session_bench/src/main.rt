@@ -2,6 +2,7 @@
 // costs. Its input is a line of counts: runs, observations (at most 64), requested distances (at most 64) and, where they are wanted, the solver (0 for a
 // formula of a few operations, 1 for `point_mass`) and what becomes of the reports: 0 as said, 1 for the last one's line below the counts too, 2 for none being
 // written.
+#![tactic(auto)]
 ghost use Rattle.std.specs.Prelude.{◌≡◌, take};
 
 use definition::{Distances, NormalPriorV1, Point, Prior, Step, TruingPriorsV1};
@@ -104,7 +105,7 @@ fn asked_about<'a>(list: Distances, ranges: &'a [f64], distances: &'a [f64]) -> 
 }
 
 // How much there was of each, and the bytes of the last report.
-#[derive(Drop)]
+#[derive(Clone, Copy)]
 struct Total {
     questions: u64,
     bytes: u64,

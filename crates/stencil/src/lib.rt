@@ -1,5 +1,6 @@
 // The five questions about a list of distances: where each is put, and where the drops of its reply go. The rows of a run's lists and the row of an edit's new
 // distance are filled by the same function.
+#![tactic(auto)]
 ghost use Rattle.std.specs.Prelude.{◌≡◌, map};
 ghost use Rattle.definition.specs.Run.{drop_or0};
 ghost use Rattle.definition.specs.Session.{entries_of};
@@ -8,7 +9,7 @@ ghost use Rattle.stencil.specs.Stencil.{point_at, five_row, gap_after, laid_if, 
 use definition::Point;
 
 // The rows of the five questions as far as they have been answered, in the first places, and the first gap.
-#[derive(Drop)]
+#[derive(Clone, Copy)]
 pub struct StencilRows {
     pub predicted: [f64; 64],
     pub by_mv: [f64; 64],
@@ -17,7 +18,7 @@ pub struct StencilRows {
 }
 
 // The row of one distance as far as the five questions have been answered; the gap is 1 where an entry was missing, else 0.
-#[derive(Drop)]
+#[derive(Clone, Copy)]
 pub struct OneRow {
     pub predicted: f64,
     pub by_mv: f64,

@@ -1,4 +1,5 @@
 // Standard input as it comes, in any pieces: bytes become lines, and each line gets its answer in a lent buffer.
+#![tactic(auto)]
 ghost use Rattle.std.specs.Prelude.{◌≡◌, List, [], ℕ, take};
 ghost use Rattle.lines.specs.Lines.{form_of};
 ghost use Rattle.lines.specs.Reading.{form_in, short};
@@ -10,7 +11,7 @@ use lines::Line;
 
 // The line that is being read: its words so far and the one that is being read, whether that is the first, and whether the line has a byte. A word of a form
 // has at most 20 bytes, or 22 with both parentheses: of a longer one 32 are kept, so that it stays too long.
-#[derive(Drop)]
+#[derive(Clone, Copy)]
 pub struct Reader {
     word: [u8; 32],
     len: usize,
@@ -48,7 +49,7 @@ fn whole_line(r: Reader) -> Line
     lines::take(line, slices::first_bytes(&r.word, len), first, true)
 }
 
-#[derive(Drop)]
+#[derive(Clone, Copy)]
 pub struct Scanned {
     reader: Reader,
     at: usize,
@@ -104,13 +105,13 @@ fn scan(r: Reader, bytes: &[u8], at: usize) -> Scanned
     }
 }
 
-#[derive(Drop)]
+#[derive(Clone, Copy)]
 pub struct State {
     reader: Reader,
     conversation: Conversation,
 }
 
-#[derive(Drop)]
+#[derive(Clone, Copy)]
 pub struct Fed {
     pub state: State,
     pub at: usize,

@@ -1,4 +1,5 @@
 // What a finished fit is reported as: observation results, `build_approximation` and the diagnostics.
+#![tactic(auto)]
 ghost use Rattle.std.specs.Prelude.{◌≡◌};
 ghost use Rattle.definition.specs.Fit.{gradient_norm_of};
 ghost use Rattle.definition.specs.Summary.{result_of, interval95, covariance_of, correlation_of, with_intervals, build_approximation_of, approximation_of};
@@ -124,14 +125,14 @@ pub fn approximation(converged: bool, p: Point, information: Symmetric2) -> Trui
 
 // ---- diagnostics
 
-#[derive(Drop)]
+#[derive(Clone, Copy)]
 pub enum Criterion {
     Absent,
     Given(TruingMapConvergenceCriterionV1),
 }
 
 // Fit and approximation diagnostics.
-#[derive(Drop)]
+#[derive(Clone, Copy)]
 pub struct TruingUncertaintyDiagnosticsV1 {
     pub chi_square: f64,
     pub prior_penalty: f64,

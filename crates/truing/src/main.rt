@@ -1,6 +1,7 @@
 // The line protocol over standard input and output: a host's lines are answered one by one, and each answer is written out before the next line is read.
 // `begin`, `feed` and `finish` are the library's, with what theorem `output` of `stream` assumes of them: however the input is cut into pieces, the bytes that
 // they leave in the buffer are those of the protocol's definition. What follows them is the loop that reads, calls and writes.
+#![tactic(auto)]
 ghost use Rattle.std.specs.Prelude.{[]};
 ghost use Rattle.conversation.specs.Conversation.{initial};
 ghost use Rattle.stream.specs.Bytes.{Holds, Feeds, Finishes};
@@ -51,7 +52,7 @@ fn take_bytes(s: State, bytes: &[u8]) -> State {
     state
 }
 
-#[derive(Drop)]
+#[derive(Clone, Copy)]
 struct Read {
     state: State,
     more: bool,

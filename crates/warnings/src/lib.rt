@@ -1,4 +1,5 @@
 // The ten warnings, each as a truth.
+#![tactic(auto)]
 ghost use Rattle.std.specs.Prelude.{◌≡◌};
 ghost use Rattle.definition.specs.Lists.{any};
 ghost use Rattle.definition.specs.Summary.{converged, nearer, farther, dominated_of, crosses_bounds_of, is_mesh, is_unavailable, at_most_one};
@@ -119,7 +120,7 @@ fn is_mesh(convergence: Convergence) -> bool
 }
 
 // The ten warnings, in the order in which the source pushes them: each stands where its truth is set.
-#[derive(Drop)]
+#[derive(Clone, Copy)]
 pub struct Warnings {
     pub optimizer_did_not_converge: bool,
     pub objective_mesh_convergence: bool,

@@ -1,4 +1,5 @@
 // The fixed words of the line protocol, those that are read and those that are written: one table, a word to a row.
+#![tactic(auto)]
 ghost use Rattle.std.specs.Prelude.{◌≡◌, ◌<◌, length, get_or};
 ghost use Rattle.words.specs.Words.{same, words, word_at, place_of};
 ghost use Rattle.words.specs.Rows.{padded, table_of, low};
@@ -95,7 +96,7 @@ pub const MALFORMED: usize = 41;
 pub const PAGE: usize = 42;
 
 // A word's bytes: the first `len`, and blanks behind them.
-#[derive(Drop)]
+#[derive(Clone, Copy)]
 pub struct WordText {
     pub bytes: [u8; 32],
     pub len: usize,
@@ -114,7 +115,7 @@ fn table() -> [u8; 1376]
     open                            \
     drops                           \
     refused                         \
-    put_in_lem                          \
+    put-in                          \
     take-out                        \
     exchange                        \
     asked                           \

@@ -1,0 +1,78 @@
+-- `put_bands`: item by item. The invariant: the first i items are written.
+use borrow.Author.Rules.{rules}
+use Prim.Native.Nat.{ℕ, ◌-◌, ◌≤◌, ◌+◌}
+use mathlib.Core.Path.{◌≡◌, sym, ap, ◌∙◌}
+use mathlib.Core.List.{List, [], ◌∷◌, ◌++◌, map}
+use mathlib.Core.Option.{Option, some}
+use native.Mathlib.Omega.{arith}
+use lib.ListN.{take}
+use Rattle.definition.specs.Summary.{Band, Report}
+use Rattle.report.specs.Places.{band_at_says}
+use Rattle.editing.specs.Meaning.{state}
+use Rattle.report.specs.Reading.{report_in}
+use Rattle.answer_text.proofs.Laws.{place_list}
+use Rattle.report_text.specs.Writing.{Text, Writes}
+use Rattle.report_text.proofs.Writing.{then, as_text, same_room, within, nothing}
+use Rattle.report_text.specs.Texts.{joined, bracketed, band_text, bands_text}
+use Rattle.answer_text.specs.Answers.{bands_in}
+use Rattle.answer_text.proofs.Laws.{item, all_taken}
+use Rattle.answer_text.proofs.put_bands.Goals as goal
+
+pub loop-i-init : goal.loop-i-init
+unfolding joined
+loop-i-init c =
+    let w = c.put_byte-next.ensures in
+    (omega arith, nothing (omega (arith, within w, same_room w)))
+
+pub shape_of-out-in_default : goal.shape_of-out-in_default
+shape_of-out-in_default c =
+    let c1 = c in
+    let c2 = c1 in
+    same_room (then c2.put_byte-next.ensures (then c1.loop-i.invariant.1 c.put_byte.ensures))
+
+pub returns-in_default : goal.returns-in_default
+unfolding bands_text bracketed
+returns-in_default c =
+    let a = c.args in
+    let l = c.loop-i in
+    let xs = bands_in a.s in
+    let e =
+    sym (c.predictive_band-found.ensures.is ∙ place_list (λ p. p.bands) l.i (report_in (state a.s)))
+    ∙ ap band_at_says c.in_default.is in
+    as_text (then c.put_byte-next.ensures
+    (then l.invariant.1 c.put_byte.ensures))
+    (ap (λ (m : List Band). bracketed (map band_text m)) (all_taken xs l.i a.n e (omega arith)))
+
+pub overflow_add-i : goal.overflow_add-i
+overflow_add-i c = omega arith
+
+pub loop-i-smaller : goal.loop-i-smaller
+loop-i-smaller c = omega arith
+
+pub loop-i-preserved : goal.loop-i-preserved
+loop-i-preserved c =
+    let a = c.args in
+    let l = c.loop-i in
+    let xs = bands_in a.s in
+    let e =
+    sym
+    (c.predictive_band-found.ensures.is ∙ place_list (λ p. p.bands) l.i (report_in (state a.s)))
+    ∙ ap band_at_says c.in-Given.is in
+    (omega arith, as_text (then l.invariant.1 c.put_next_band-next.ensures) (item band_text xs l.i _ e))
+
+pub shape_of-out : goal.shape_of-out
+shape_of-out c =
+    let c1 = c in
+    let c2 = c1 in
+    same_room (then c2.put_byte-next.ensures (then c1.loop-i.invariant.1 c.put_byte-2.ensures))
+
+pub returns : goal.returns
+unfolding bands_text bracketed
+returns c =
+    let a = c.args in
+    let l = c.loop-i in
+    let xs = bands_in a.s in
+    let k : l.i ≡ a.n = omega arith in
+    as_text
+    (then c.put_byte-next.ensures (then l.invariant.1 c.put_byte-2.ensures))
+    (ap (λ (n : ℕ). bracketed (map band_text (take n xs))) k)

@@ -1,0 +1,39 @@
+-- `put_report`: where a report stands.
+use borrow.Author.Rules.{rules}
+use mathlib.Core.Path.{sym, ap, subst}
+use Rattle.editing.specs.Meaning.{state}
+use Rattle.report.specs.Reading.{Shows, report_in}
+use Rattle.report.specs.declared.Shown.{Shown}
+use Rattle.report_text.proofs.Writing.{as_text, same_room}
+use Rattle.answer_text.specs.Answers.{standing_text}
+use Rattle.answer_text.proofs.Laws.{none_stands, one_stands}
+use Rattle.answer_text.proofs.put_report.Goals as goal
+
+pub shape_of-out-in-Absent : goal.shape_of-out-in-Absent
+shape_of-out-in-Absent c = same_room c.put_bytes.ensures
+
+pub returns-in-Absent : goal.returns-in-Absent
+returns-in-Absent c =
+    let c1 = c in
+    let c2 = c1 in
+    as_text c.put_bytes.ensures
+    (sym (ap standing_text
+    (none_stands (report_in (state c2.args.s))
+    (subst (λ (x : Shown). Shows x (report_in (state c2.args.s))) c1.in-Absent.is c1.report.ensures.is))))
+
+pub shape_of-out-in-Given : goal.shape_of-out-in-Given
+shape_of-out-in-Given c =
+    let c1 = c in
+    let c2 = c1 in
+    let s = c2.args.s in
+    same_room
+    (one_stands (report_in (state s)) _ (subst (λ (x : Shown). Shows x (report_in (state s))) c1.in-Given.is c1.report.ensures.is)
+    c.put_shown.ensures)
+
+pub returns-in-Given : goal.returns-in-Given
+returns-in-Given c =
+    let c1 = c in
+    let c2 = c1 in
+    let s = c2.args.s in
+    one_stands (report_in (state s)) _ (subst (λ (x : Shown). Shows x (report_in (state s))) c1.in-Given.is c1.report.ensures.is)
+    c.put_shown.ensures

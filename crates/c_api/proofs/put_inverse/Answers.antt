@@ -1,0 +1,17 @@
+-- `put_inverse`: four doubles, each after the one before it.
+use Rattle.c_api.proofs.Laws.{put_4}
+use borrow.Author.Rules.{rules}
+use Rattle.c_api.proofs.put_inverse.Goals as goal
+
+pub returns : goal.returns
+returns c =
+    let a = c.args in
+    put_4 a.a00 a.a01 a.a11 a.condition a.out-1.now
+    c.put_double.new.out
+    c.put_double-2.new.out
+    c.put_double-3.new.out
+    c.put_double-4.new.out
+    c.put_double.ensures
+    c.put_double-2.ensures
+    c.put_double-3.ensures
+    c.put_double-4.ensures

@@ -1,0 +1,56 @@
+-- `truing_objective_sum`: by the tests, in their order.
+use Prim.Native.Nat.{ℕ}
+use mathlib.Core.Path.{◌≡◌, ◌∙◌}
+use native.Mathlib.Omega.{arith}
+use Rattle.definition.specs.declared.Point.{Point}
+use Rattle.c_api.specs.Desk.{priors_of, sum_outcome}
+use Rattle.c_api.proofs.Laws.{answered, sum_1, sum_2, sum_3, sum_0, sum_room}
+use borrow.Author.Rules.{rules}
+use Rattle.c_api.proofs.truing_objective_sum.Goals as goal
+
+pub returns-then-observations-n : goal.returns-then-observations-n
+returns-then-observations-n c =
+    let a = c.args in
+    let q = priors_of a.priors a.speed-mean a.speed-sigma a.coefficient-mean a.coefficient-sigma in
+    let p : Point = record { mv = a.speed; bc = a.coefficient } in
+    let o = sum_outcome q p a.observations.now a.replies.now a.out.now in
+    answered o (sum_1 q p a.observations.now a.replies.now a.out.now c.if-observations-n.true)
+
+pub returns-then-replies-n : goal.returns-then-replies-n
+returns-then-replies-n c =
+    let a = c.args in
+    let q = priors_of a.priors a.speed-mean a.speed-sigma a.coefficient-mean a.coefficient-sigma in
+    let p : Point = record { mv = a.speed; bc = a.coefficient } in
+    let o = sum_outcome q p a.observations.now a.replies.now a.out.now in
+    answered o (sum_2 q p a.observations.now a.replies.now a.out.now c.if-observations-n.false c.if-replies-n.true)
+
+pub returns-then-out-lt-DOUBLE : goal.returns-then-out-lt-DOUBLE
+returns-then-out-lt-DOUBLE c =
+    let a = c.args in
+    let q = priors_of a.priors a.speed-mean a.speed-sigma a.coefficient-mean a.coefficient-sigma in
+    let p : Point = record { mv = a.speed; bc = a.coefficient } in
+    let o = sum_outcome q p a.observations.now a.replies.now a.out.now in
+    answered o (sum_3 q p a.observations.now a.replies.now a.out.now c.if-observations-n.false c.if-replies-n.false c.if-out-lt-DOUBLE.true)
+
+pub sum-requires : goal.sum-requires
+sum-requires c =
+    let a = c.args in
+    let q = priors_of a.priors a.speed-mean a.speed-sigma a.coefficient-mean a.coefficient-sigma in
+    let p : Point = record { mv = a.speed; bc = a.coefficient } in
+    let o = sum_outcome q p a.observations.now a.replies.now a.out.now in
+    let room = sum_room q p a.observations.now a.replies.now a.out.now c.if-observations-n.false in
+    (room.0, room.1, omega arith)
+
+pub returns : goal.returns
+returns c =
+    let c1 = c in
+    let c2 = c1 in
+    let c3 = c2 in
+    let a = c3.args in
+    let q = priors_of a.priors a.speed-mean a.speed-sigma a.coefficient-mean a.coefficient-sigma in
+    let p : Point = record { mv = a.speed; bc = a.coefficient } in
+    let o = sum_outcome q p a.observations.now a.replies.now a.out-1.now in
+    answered o
+    (sum_0 q p a.observations.now a.replies.now a.out-1.now c2.if-observations-n.false c2.if-replies-n.false
+    c.put_double.new.out c2.if-out-lt-DOUBLE.false
+    (c.put_double.ensures ∙ rw (c1.sum.ensures, c1.priors_of-given.ensures)))

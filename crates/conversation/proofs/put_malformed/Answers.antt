@@ -1,0 +1,7 @@
+use Rattle.answer_text.specs.Answers.{answer_text}
+use Rattle.report_text.proofs.Writing.{then}
+use borrow.Author.Rules.{rules}
+use Rattle.conversation.proofs.put_malformed.Goals as goal
+
+pub returns : goal.returns
+returns c = then c.put_malformed-at.ensures c.put_byte.ensures

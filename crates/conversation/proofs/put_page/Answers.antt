@@ -1,0 +1,18 @@
+-- `conversation::put_page` meets its contract. Assumes nothing.
+use borrow.Author.Rules.{rules}
+use Rattle.conversation.proofs.Responses.{page_head}
+use Rattle.report_text.proofs.Writing.{then, as_text, same_room}
+use Rattle.conversation.proofs.put_page.Goals as goal
+
+pub shape_of-out : goal.shape_of-out
+shape_of-out c =
+    let c1 = c in
+    let c2 = c1 in
+    same_room (then c2.put_page_count-at.ensures (then c1.put_byte-at.ensures c.put_page.ensures))
+
+pub returns : goal.returns
+returns c =
+    let c1 = c in
+    let c2 = c1 in
+    as_text (then c2.put_page_count-at.ensures (then c1.put_byte-at.ensures c.put_page.ensures)) (page_head _ _ _
+    c2.lines.ensures)

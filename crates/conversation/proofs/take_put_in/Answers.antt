@@ -1,0 +1,13 @@
+use Rattle.definition.specs.Meaning.{number_of}
+use Rattle.requests.specs.Request.{requested_with}
+use Rattle.conversation.specs.Conversation.{answer_to}
+use Rattle.definition.specs.Whole as edits
+use Rattle.demands.specs.Calls.{refuse_point, change}
+use borrow.Author.Rules.{rules}
+use Rattle.conversation.proofs.take_put_in.Goals as goal
+
+pub returns : goal.returns
+unfolding answer_to
+returns c =
+    λ u k. let a = c.args in
+    c.after_call.ensures u (change (edits.put_in-a a.place (requested_with a.range (number_of a.sigma)))) k c.put_in-a.ensures

@@ -1,0 +1,14 @@
+-- `baseline_result`: the run's, or none while an edit has a question open.
+use borrow.Author.Rules.{rules}
+use Rattle.editing.proofs.Calls.{run_baseline, open_baseline}
+use Rattle.editing.proofs.baseline_result.Goals as goal
+
+pub returns-in-Closed : goal.returns-in-Closed
+returns-in-Closed c =
+    let at-enum-told = c in
+    let start = at-enum-told in
+    run_baseline start.args.s at-enum-told.in-Closed.is start.args.i _ c.baseline_result.ensures
+
+pub returns-in-Asks : goal.returns-in-Asks
+returns-in-Asks c =
+    open_baseline c.args.s _ c.in-Asks.is c.args.i

@@ -1,0 +1,15 @@
+-- `refuse`: the run's, or the open edit's.
+use borrow.Author.Rules.{rules}
+use Rattle.editing.proofs.Calls.{run_refused, edit_refused}
+use Rattle.editing.proofs.refuse.Goals as goal
+
+pub returns-in-Closed : goal.returns-in-Closed
+returns-in-Closed c =
+    let at-refuse = c in
+    let at-enum-told = at-refuse in
+    let start = at-enum-told in
+    run_refused start.args.s at-enum-told.in-Closed.is at-refuse.refuse.result _ at-refuse.refuse.ensures c.of_run.ensures
+
+pub returns-in-Asks : goal.returns-in-Asks
+returns-in-Asks c =
+    edit_refused c.args.s _ c.in-Asks.is _ c.refuse_new.ensures

@@ -1,0 +1,17 @@
+-- `next_iteration`: by whether an iteration is left.
+use borrow.Author.Rules.{rules}
+use Rattle.fitting.proofs.Laws.{last_iteration, another_iteration}
+use Rattle.fitting.proofs.next_iteration.Goals as goal
+
+pub returns-then-g-eq0 : goal.returns-then-g-eq0
+returns-then-g-eq0 c = record { leads = λ m ds. last_iteration c.args.g m ds c.if-g-eq0.true }
+
+pub returns : goal.returns
+returns c =
+    let at-iterations-left = c in
+    let at-if1 = at-iterations-left in
+    let start = at-if1 in
+    record {
+      leads = λ m ds. another_iteration start.args.g at-iterations-left.iterations_left-left.result m ds at-if1.if-g-eq0.false
+          at-iterations-left.iterations_left-left.ensures;
+    }

@@ -1,0 +1,21 @@
+-- `any_gap` meets its contract: as long as no flag was found, up to `i` no entry is missing. Assumes nothing.
+use Prim.Native.Nat.{ℕ, suc, ◌≤◌, ◌<◌, ◌-◌, min}
+use mathlib.Core.Path.{◌≡◌, refl}
+use mathlib.Core.Bool.{Bool, true, false, ◌||◌}
+use native.Mathlib.Numerals.{add-one}
+use native.Mathlib.Omega.{arith}
+use borrow.Author.Rules.{rules}
+use lib.ListN.{length, take}
+use lib.Seq.{take_all}
+use Rattle.definition.specs.Lists.{first_at}
+use Rattle.definition.specs.Run.{is_missing}
+use Rattle.definition.specs.Session.{entries_of}
+use Rattle.likelihood.proofs.Laws.{unset_here, entries_length}
+use Rattle.likelihood.proofs.any_gap.Given as goal
+
+abbrev pub invariant-loop-i : goal.invariant-loop-i
+invariant-loop-i l =
+    (l.n ≡ min (length l.drops) (length l.missing)) × (l.i ≤ l.n) × (l.found ≡ false → first_at is_missing (take l.i (entries_of l.drops l.missing)) ≡ 0)
+
+abbrev pub decreases-loop-i : goal.decreases-loop-i
+decreases-loop-i l = l.n - l.i

@@ -1,0 +1,56 @@
+-- `chi_square` meets its contract: the sum is that of the first `i` observations. Assumes nothing.
+use Prim.Native.Nat.{ℕ, suc, ◌≤◌, ◌<◌, ◌-◌, min}
+use mathlib.Core.Path.{◌≡◌, refl, sym, ap, ◌∙◌}
+use mathlib.Core.List.{List}
+use native.Mathlib.Numerals.{add-one}
+use native.Mathlib.Omega.{arith}
+use borrow.Author.Rules.{rules}
+use lib.ListN.{length, get_or, take}
+use lib.Ieee.{Float, nan}
+use Rattle.numeric.specs.Numeric.{zero64}
+use Rattle.definition.specs.Lists.{fold_pairs}
+use Rattle.definition.specs.Request.{Observation}
+use Rattle.definition.specs.Likelihood.{with_shot, chi_square_of}
+use Rattle.definition.specs.Meaning.{observation_of, observations_of}
+use Rattle.likelihood.proofs.Laws.{fold_suc, fold_all, zip3_at, zip3_shortest, zip3_within}
+use Rattle.likelihood.proofs.chi_square.Goals as goal
+
+module _ (rs ds ss ps : List Float) (i : ℕ) where
+  abbrev up_to : ℕ → Float
+  up_to k = fold_pairs with_shot zero64 (take k (observations_of rs ds ss)) (take k ps)
+
+  one_more : i < length (observations_of rs ds ss) → i < length ps
+      → with_shot (up_to i) (observation_of (get_or rs i nan) (get_or ds i nan) (get_or ss i nan)) (get_or ps i nan) ≡ up_to (suc i)
+  one_more g h =
+      let w = zip3_within observation_of rs ds ss in
+      let q = observation_of nan nan nan in
+      sym (fold_suc with_shot zero64 (observations_of rs ds ss) ps i q nan g h
+      ∙ ap (λ (o : Observation). with_shot (up_to i) o (get_or ps i nan))
+      (zip3_at observation_of rs ds ss i q nan nan nan (omega arith) (omega arith) (omega arith)))
+
+pub loop-i-init : goal.loop-i-init
+loop-i-init c =
+    let a = c.args in
+    let w = zip3_within observation_of a.ranges.now a.drops.now a.sigmas.now in
+    let e = zip3_shortest observation_of a.ranges.now a.drops.now a.sigmas.now in
+    let s = c.shortest-shots.ensures in
+    (rw (s, ← e) at c.shorter-n.ensures, omega arith, omega arith, omega arith, refl)
+
+pub loop-i-preserved : goal.loop-i-preserved
+loop-i-preserved c =
+    let l = c in
+    let a = l.args in
+    let v = l.loop-i.invariant in (
+      v.0,
+      v.1,
+      v.2,
+      omega arith,
+      rw (add-one, v.4) (one_more a.ranges.now a.drops.now a.sigmas.now a.predicted.now l.loop-i.i (omega arith) (omega arith)),
+    )
+
+pub returns : goal.returns
+unfolding chi_square_of
+returns c =
+    let a = c.args in
+    let v = c.loop-i.invariant in
+    v.4 ∙ fold_all with_shot zero64 (observations_of a.ranges.now a.drops.now a.sigmas.now) a.predicted.now c.loop-i.i (omega arith)

@@ -1,0 +1,41 @@
+-- `first_gap` meets its contract: none is missing, or up to `i` none is. Assumes nothing.
+use Prim.Native.Nat.{ℕ, suc, ◌≤◌, ◌<◌, ◌-◌, min}
+use mathlib.Core.Path.{◌≡◌, refl, sym, ap, ◌∙◌}
+use native.Mathlib.Numerals.{add-one}
+use native.Mathlib.Omega.{arith}
+use borrow.Author.Rules.{rules}
+use borrow.Author.Tests.{not-true}
+use lib.ListN.{length, take}
+use lib.Seq.{take_all}
+use Rattle.definition.specs.Lists.{first_at}
+use Rattle.definition.specs.Run.{is_missing}
+use Rattle.definition.specs.Session.{entries_of}
+use Rattle.likelihood.proofs.Laws.{set_here, unset_here, entries_length}
+use Rattle.likelihood.proofs.first_gap.Goals as goal
+
+pub returns-then-not-any_gap : goal.returns-then-not-any_gap
+returns-then-not-any_gap c = sym (c.any_gap.ensures (not-true c.any_gap.result c.if-not-any_gap.true-raw))
+
+pub loop-i-init : goal.loop-i-init
+loop-i-init c = (c.shorter-n.ensures, omega arith, refl)
+
+pub returns-then-missing-i : goal.returns-then-missing-i
+returns-then-missing-i c =
+    let l = c in
+    let a = l.args in
+    add-one l.loop-i.i ∙ set_here a.drops.now a.missing.now l.loop-i.i (omega arith) (omega arith) l.loop-i.invariant.2 c.if-missing-i.true
+
+pub loop-i-preserved : goal.loop-i-preserved
+loop-i-preserved c =
+    let l = c in
+    let a = l.args in (
+      l.loop-i.invariant.0,
+      omega arith,
+      rw add-one (unset_here a.drops.now a.missing.now l.loop-i.i (omega arith) (omega arith) l.loop-i.invariant.2 c.if-missing-i.false),
+    )
+
+pub returns : goal.returns
+returns c =
+    let a = c.args in
+    let e = entries_length a.drops.now a.missing.now in
+    sym (rw (take_all c.loop-i.i (entries_of a.drops.now a.missing.now) (omega arith)) at c.loop-i.invariant.2)

@@ -1,0 +1,24 @@
+-- `lay_slopes` meets its contract: the first `i` slopes are laid over the slice, and the drops after them are still there. Assumes nothing.
+use Prim.Native.Nat.{ℕ, suc, ◌≤◌, ◌<◌, ◌-◌, min}
+use mathlib.Core.Path.{◌≡◌, refl, sym, ap, ◌∙◌}
+use mathlib.Core.Bool.{Bool, false}
+use mathlib.Core.List.{List, map}
+use native.Mathlib.Numerals.{add-one}
+use native.Mathlib.Omega.{arith}
+use borrow.Author.Rules.{rules}
+use lib.ListN.{length, get_or, take, set, length-set, length-take}
+use lib.Ieee.{Float, nan}
+use Rattle.definition.specs.Run.{drop_or0}
+use Rattle.definition.specs.Likelihood.{slope, slopes}
+use Rattle.definition.specs.Session.{entry_of, entries_of}
+use Rattle.slices.specs.Slices.{shortest_of, laid_over}
+use Rattle.likelihood.proofs.Laws.{over_suc, over_all, over_past, zip_at, zip_length, drops_length, drops_at}
+use Rattle.likelihood.proofs.lay_slopes.Given as goal
+
+abbrev pub invariant-loop-i : goal.invariant-loop-i
+invariant-loop-i l =
+    (l.n ≡ min (length l.initial.out) (min (length l.drops) (length l.missing))) × (l.i ≤ l.n) × (length l.out ≡ length l.initial.out)
+    × (l.out ≡ laid_over (take l.i (slopes l.step l.initial.out (map drop_or0 (entries_of l.drops l.missing)))) l.initial.out)
+
+abbrev pub decreases-loop-i : goal.decreases-loop-i
+decreases-loop-i l = l.n - l.i

@@ -1,0 +1,8 @@
+-- `mv_plus` meets its contract, by that of `mv_step`. Assumes nothing.
+use borrow.Author.Rules.{rules}
+use Rattle.definition.specs.Likelihood.{mv_plus_at}
+use Rattle.likelihood.proofs.mv_plus.Goals as goal
+
+pub returns : goal.returns
+unfolding mv_plus_at
+returns c = simp (← c.mv_step.ensures)

@@ -1,0 +1,28 @@
+-- `lines::prior` meets its contract. Assumes nothing.
+use borrow.Author.Rules.{rules}
+use borrow.Author.Tests.{eq-eqb, ne_eqb}
+use Rattle.lines.specs.Reading.{prior_in}
+use Rattle.lines.specs.Lines.{prior_of}
+use Rattle.lines.proofs.prior.Goals as goal
+
+pub returns-then-f-ne4 : goal.returns-then-f-ne4
+unfolding prior_in prior_of
+returns-then-f-ne4 c = λ es. simp (ne_eqb _ _ c.if-f-ne4.true)
+
+pub returns-in_default : goal.returns-in_default
+unfolding prior_in prior_of
+returns-in_default c = λ es. simp (eq-eqb _ _ c.if-f-ne4.false, c.in_default.is)
+
+pub returns-in_default-q : goal.returns-in_default-q
+unfolding prior_in prior_of
+returns-in_default-q c =
+    let c1 = c in
+    let c2 = c1 in
+    λ es. simp (eq-eqb _ _ c2.if-f-ne4.false, c1.in-Double.is, c.in_default-q.is)
+
+pub returns : goal.returns
+unfolding prior_in prior_of
+returns c =
+    let c1 = c in
+    let c2 = c1 in
+    λ es. simp (eq-eqb _ _ c2.if-f-ne4.false, c1.in-Double.is, c.in-Double-q.is, ← c.prior_of.ensures es)

@@ -1,0 +1,10 @@
+-- `numerals::write_double` meets its contract. Assumes nothing.
+use mathlib.Core.Path.{◌∙◌}
+use Rattle.numerals.proofs.Numbers.{in_16}
+use borrow.Author.Rules.{rules}
+use Rattle.numerals.proofs.write_double.Goals as goal
+
+pub returns : goal.returns
+returns c =
+    let c1 = c in
+    c.spell.ensures ∙ in_16 c1.pattern.result c1.args.x c1.pattern.ensures

@@ -1,0 +1,59 @@
+-- `hypot` meets its contract: its tests on the absolute values are the definition's cases (`hypot_by_tests`). Assumes nothing.
+use borrow.Author.Rules.{rules}
+use lib.Ieee.{div, of_bits}
+use Rattle.numeric.proofs.Laws.{hypot_by_tests}
+use Rattle.numeric.proofs.hypot.Goals as goal
+
+pub returns-then-a-infinite : goal.returns-then-a-infinite
+returns-then-a-infinite c = simp (hypot_by_tests, ← c.abs-a.ensures, ← c.abs-b.ensures, ← c.infinity-infinite.ensures, c.if-a-infinite.true)
+
+pub returns-then-a-b : goal.returns-then-a-b
+unfolding div of_bits
+returns-then-a-b c =
+    let c1 = c in
+    simp (hypot_by_tests, ← c1.abs-a.ensures, ← c1.abs-b.ensures, ← c.infinity-infinite.ensures, c.if-a-infinite.false, c.if-a-b.true)
+
+pub returns-then-a-b-2 : goal.returns-then-a-b-2
+returns-then-a-b-2 c =
+    let c1 = c in
+    simp (
+      hypot_by_tests,
+      ← c1.abs-a.ensures,
+      ← c1.abs-b.ensures,
+      ← c1.infinity-infinite.ensures,
+      c.if-a-infinite.false,
+      c.if-a-b.false,
+      c.if-a-b-2.true,
+    )
+
+pub returns-then-a-b-3 : goal.returns-then-a-b-3
+returns-then-a-b-3 c =
+    let c1 = c in
+    let c2 = c1 in
+    simp (
+      hypot_by_tests,
+      ← c2.abs-a.ensures,
+      ← c2.abs-b.ensures,
+      ← c1.infinity-infinite.ensures,
+      c1.if-a-infinite.false,
+      c1.if-a-b.false,
+      c.if-a-b-2.false,
+      c.if-a-b-3.true,
+      ← c.scaled.ensures,
+    )
+
+pub returns : goal.returns
+returns c =
+    let c1 = c in
+    let c2 = c1 in
+    simp (
+      hypot_by_tests,
+      ← c2.abs-a.ensures,
+      ← c2.abs-b.ensures,
+      ← c1.infinity-infinite.ensures,
+      c1.if-a-infinite.false,
+      c1.if-a-b.false,
+      c.if-a-b-2.false,
+      c.if-a-b-3.false,
+      ← c.scaled-2.ensures,
+    )

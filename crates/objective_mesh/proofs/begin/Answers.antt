@@ -1,0 +1,18 @@
+-- `begin` meets its contract: each answer of the look by its law over plain values. Assumes nothing.
+use borrow.Author.Rules.{rules}
+use Rattle.objective_mesh.proofs.Laws.{begin_moved, begin_none}
+use Rattle.objective_mesh.proofs.begin.Goals as goal
+
+pub returns-in-Moved : goal.returns-in-Moved
+returns-in-Moved c =
+    let c1 = c in
+    let a = c1.args in
+    begin_moved a.axis a.radius a.smaller a.centre a.current a.evaluations c1.look-found.ensures c.in-Moved.is
+    c.pass_at-s.ensures
+
+pub returns-in-NoneMoved : goal.returns-in-NoneMoved
+returns-in-NoneMoved c =
+    let c1 = c in
+    let a = c1.args in
+    begin_none a.axis a.radius a.smaller a.centre a.current a.evaluations c1.look-found.ensures c.in-NoneMoved.is
+    c.ungained.ensures

@@ -1,0 +1,39 @@
+-- `direction_at` meets its contract: each arm by its number, and the last by the law of the eighth direction. Assumes nothing.
+use mathlib.Core.Path.{sym}
+use native.Mathlib.Omega.{arith}
+use Rattle.objective_mesh.proofs.Directions.{direction_last}
+use Rattle.objective_mesh.proofs.Laws.{past}
+use Rattle.objective_mesh.proofs.direction_at.Goals as goal
+
+pub returns-in-0 : goal.returns-in-0
+returns-in-0 c = rw c.in-0.is
+
+pub returns-in-1 : goal.returns-in-1
+returns-in-1 c = rw c.in-1.is
+
+pub returns-in-2 : goal.returns-in-2
+returns-in-2 c = rw c.in-2.is
+
+pub returns-in-3 : goal.returns-in-3
+returns-in-3 c = rw c.in-3.is
+
+pub returns-in-4 : goal.returns-in-4
+returns-in-4 c = rw c.in-4.is
+
+pub returns-in-5 : goal.returns-in-5
+returns-in-5 c = rw c.in-5.is
+
+pub returns-in-6 : goal.returns-in-6
+returns-in-6 c = rw c.in-6.is
+
+pub returns-in_default : goal.returns-in_default
+returns-in_default c =
+    let a = c.args in
+    let j = a.j in
+    let n = c.in_default.rest in
+    sym
+    (direction_last a.axis j
+    (past 6 j
+    (past 5 j
+    (past 4 j (past 3 j (past 2 j (past 1 j (past 0 j (omega arith) n.0.0.0.0.0.0.1) n.0.0.0.0.0.1) n.0.0.0.0.1) n.0.0.0.1)
+    n.0.0.1) n.0.1) n.1))

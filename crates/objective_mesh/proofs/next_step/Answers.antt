@@ -1,0 +1,17 @@
+-- `next_step` meets its contract: each answer of the look by its law over plain values. Assumes nothing.
+use borrow.Author.Rules.{rules}
+use Rattle.objective_mesh.specs.Meaning.{pass_of}
+use Rattle.objective_mesh.proofs.Laws.{step_moved, step_none}
+use Rattle.objective_mesh.proofs.next_step.Goals as goal
+
+pub returns-in-Moved : goal.returns-in-Moved
+returns-in-Moved c =
+    let c1 = c in
+    let c2 = c1 in
+    step_moved (pass_of c2.args.s) c1.look-found.ensures c1.in-Moved.is
+
+pub returns-in-NoneMoved : goal.returns-in-NoneMoved
+returns-in-NoneMoved c =
+    let c1 = c in
+    let c2 = c1 in
+    step_none (pass_of c2.args.s) c1.look-found.ensures c.in-NoneMoved.is c.judged.ensures

@@ -1,0 +1,44 @@
+-- `put_page`: where a report stands.
+use borrow.Author.Rules.{rules}
+use mathlib.Core.Path.{sym, ap, subst}
+use Rattle.editing.specs.Meaning.{state}
+use Rattle.report.specs.Reading.{Shows, report_in}
+use Rattle.report.specs.declared.Shown.{Shown}
+use Rattle.report_text.proofs.Writing.{as_text, same_room}
+use Rattle.answer_text.proofs.Laws.{none_stands}
+use Rattle.page_text.specs.Page.{page_in}
+use Rattle.page.proofs.Laws.{one_stands}
+use Rattle.page.proofs.put_page.Goals as goal
+
+pub shape_of-out-in-Absent : goal.shape_of-out-in-Absent
+shape_of-out-in-Absent c = same_room c.put_bytes.ensures
+
+pub returns-in-Absent : goal.returns-in-Absent
+returns-in-Absent c =
+    let c1 = c in
+    let c2 = c1 in
+    let c3 = c2 in
+    let s = c3.args.s in
+    as_text c.put_bytes.ensures
+    (sym (ap page_in (none_stands (report_in (state s))
+    (subst (λ (x : Shown). Shows x (report_in (state s))) c1.in-Absent.is c2.report.ensures.is))))
+
+pub shape_of-out-in-Given : goal.shape_of-out-in-Given
+shape_of-out-in-Given c =
+    let c1 = c in
+    let c2 = c1 in
+    let c3 = c2 in
+    let s = c3.args.s in
+    same_room (one_stands _ (report_in (state s))
+    (subst (λ (x : Shown). Shows x (report_in (state s))) c1.in-Given.is c2.report.ensures.is)
+    c.put_given.ensures)
+
+pub returns-in-Given : goal.returns-in-Given
+returns-in-Given c =
+    let c1 = c in
+    let c2 = c1 in
+    let c3 = c2 in
+    let s = c3.args.s in
+    one_stands _ (report_in (state s))
+    (subst (λ (x : Shown). Shows x (report_in (state s))) c1.in-Given.is c2.report.ensures.is)
+    c.put_given.ensures

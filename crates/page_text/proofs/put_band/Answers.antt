@@ -1,0 +1,13 @@
+-- `page_text::put_band` meets its contract. Assumes nothing.
+use borrow.Author.Rules.{rules}
+use Rattle.page_text.proofs.Laws.{by_ends}
+use Rattle.report_text.proofs.Writing.{then, as_text, same_room}
+use Rattle.page_text.specs.Page.{band_line}
+use Rattle.page_text.proofs.put_band.Goals as goal
+
+pub shape_of-out : goal.shape_of-out
+shape_of-out c = same_room c.put_row.ensures
+
+pub returns : goal.returns
+unfolding band_line
+returns c = as_text c.put_row.ensures (by_ends _ _ c.ends_of-e.ensures)

@@ -1,0 +1,17 @@
+-- `page_text::put_blanks` meets its contract. Assumes nothing.
+use mathlib.Core.Path.{sym}
+use native.Mathlib.Omega.{arith}
+use lib.ListN.{replicate}
+use lib.Seq.{length-take-le}
+use borrow.Author.Rules.{rules}
+use Rattle.report_text.proofs.Writing.{as_text}
+use Rattle.page_text.proofs.Laws.{first_blanks}
+use Rattle.page_text.proofs.put_blanks.Goals as goal
+
+pub slice_bounds-put_bytes-end : goal.slice_bounds-put_bytes-end
+slice_bounds-put_bytes-end c = sym (length-take-le c.args.n (replicate 14 32) c.requires)
+
+pub returns : goal.returns
+returns c =
+    let c1 = c in
+    as_text c.put_bytes.ensures (first_blanks c1.args.n 14 c1.requires)

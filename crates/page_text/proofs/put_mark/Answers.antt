@@ -1,0 +1,17 @@
+-- `page_text::put_mark` meets its contract. Assumes nothing.
+use borrow.Author.Rules.{rules}
+use Rattle.report_text.proofs.Writing.{then, as_text, same_room}
+use Rattle.page_text.specs.Columns.{cell_text}
+use mathlib.Core.Path.{refl}
+use Rattle.page_text.proofs.put_mark.Goals as goal
+
+pub shape_of-out : goal.shape_of-out
+shape_of-out c =
+    let c1 = c in
+    same_room (then c1.put_bytes-at.ensures c.put_byte.ensures)
+
+pub returns : goal.returns
+unfolding cell_text
+returns c =
+    let c1 = c in
+    as_text (then c1.put_bytes-at.ensures c.put_byte.ensures) (refl)

@@ -1,0 +1,18 @@
+-- `page_text::put_speed` meets its contract. Assumes nothing.
+use borrow.Author.Rules.{rules}
+use mathlib.Core.Path.{ap, ◌∙◌}
+use Rattle.page_text.specs.Page.{ends_of}
+use Rattle.page_text.proofs.Laws.{by_ends}
+use Rattle.report_text.proofs.Writing.{then, as_text, same_room}
+use Rattle.page_text.specs.Page.{speed_line}
+use Rattle.page_text.proofs.put_speed.Goals as goal
+
+pub shape_of-out : goal.shape_of-out
+shape_of-out c = same_room c.put_row.ensures
+
+pub returns : goal.returns
+unfolding speed_line
+returns c =
+    let c1 = c in
+    let c2 = c1 in
+    as_text c.put_row.ensures (by_ends _ _ (c1.ends_of-e.ensures ∙ ap ends_of c2.speed_interval.ensures))

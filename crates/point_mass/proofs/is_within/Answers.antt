@@ -1,0 +1,8 @@
+-- `is_within` meets its contract, by the law of finite. Assumes nothing.
+use borrow.Author.Rules.{rules}
+use Rattle.definition.specs.Whole.{within_of}
+use Rattle.point_mass.proofs.is_within.Goals as goal
+
+pub returns : goal.returns
+unfolding within_of
+returns c = simp (← c.is_finite.ensures)

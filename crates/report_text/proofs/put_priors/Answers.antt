@@ -1,0 +1,26 @@
+-- `report_text::put_priors` meets its contract. Assumes nothing.
+use borrow.Author.Rules.{rules}
+use Rattle.report_text.proofs.Writing.{then, as_text, same_room}
+use Rattle.report_text.proofs.Laws.{in_brackets}
+use Rattle.report_text.specs.Texts.{priors_text}
+use Rattle.report_text.proofs.put_priors.Goals as goal
+
+pub shape_of-out : goal.shape_of-out
+shape_of-out c =
+    let c1 = c in
+    let c2 = c1 in
+    let c3 = c2 in
+    let c4 = c3 in
+    same_room (then c4.put_byte-at.ensures
+    (then c3.put_prior-at.ensures (then c2.put_byte-at-2.ensures (then c1.put_prior-at-2.ensures c.put_byte.ensures))))
+
+pub returns : goal.returns
+unfolding priors_text
+returns c =
+    let c1 = c in
+    let c2 = c1 in
+    let c3 = c2 in
+    let c4 = c3 in
+    as_text (then c4.put_byte-at.ensures
+    (then c3.put_prior-at.ensures (then c2.put_byte-at-2.ensures (then c1.put_prior-at-2.ensures c.put_byte.ensures))))
+    (in_brackets _)

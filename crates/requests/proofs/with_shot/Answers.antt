@@ -1,0 +1,12 @@
+-- `with_shot`: a shot more, or the arrays are full.
+use borrow.Author.Rules.{rules}
+use Rattle.requests.proofs.Kept.{shot_full, shot_more}
+use Rattle.requests.proofs.with_shot.Goals as goal
+
+pub returns-then-n-ge65 : goal.returns-then-n-ge65
+returns-then-n-ge65 c = λ o k. let a = c.args in shot_full a.r o k a.range a.drop a.sigma c.if-n-ge65.true
+
+pub returns : goal.returns
+returns c =
+    let c1 = c in
+    λ o k. let a = c1.args in shot_more a.r o k a.range a.drop a.sigma c1.if-n-ge65.false

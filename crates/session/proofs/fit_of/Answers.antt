@@ -1,0 +1,20 @@
+-- `fit_of`: where a finished run stands.
+use borrow.Author.Rules.{rules}
+use mathlib.Core.Path.{sym, ◌∙◌}
+use borrow.Author.Tests.{not-false}
+use Rattle.session.proofs.Laws.{failed}
+use Rattle.session.proofs.Changes.{fitted_none, fitted_some}
+use Rattle.session.proofs.fit_of.Goals as goal
+
+pub returns-then-not-is_standing : goal.returns-then-not-is_standing
+returns-then-not-is_standing c =
+    fitted_none c.args.s (failed _ _ c.is_standing.ensures c.if-not-is_standing.true-raw)
+
+pub returns : goal.returns
+returns c =
+    let at-bands-count = c in
+    let at-if1 = at-bands-count in
+    let at-is-standing = at-if1 in
+    let start = at-is-standing in
+    fitted_some start.args.s at-bands-count.bands_count-n.result (sym at-is-standing.is_standing.ensures ∙ not-false _ at-if1.if-not-is_standing.false-raw)
+    at-bands-count.bands_count-n.ensures

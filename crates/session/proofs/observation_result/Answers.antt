@@ -1,0 +1,18 @@
+-- `observation_result`: where a report stands.
+use mathlib.Core.Path.{sym, ◌∙◌}
+use borrow.Author.Rules.{rules}
+use borrow.Author.Tests.{not-false}
+use Rattle.session.proofs.Laws.{failed}
+use Rattle.session.proofs.Reading.{no_result, a_result}
+use Rattle.session.proofs.observation_result.Goals as goal
+
+pub returns-then-not-is_standing : goal.returns-then-not-is_standing
+returns-then-not-is_standing c = no_result c.args.s c.args.i (failed _ _ c.is_standing.ensures c.if-not-is_standing.true-raw)
+
+pub returns : goal.returns
+returns c =
+    let at-if1 = c in
+    let at-is-standing = at-if1 in
+    let start = at-is-standing in
+    a_result start.args.s start.args.i c.result_of.result (sym at-is-standing.is_standing.ensures ∙ not-false _ at-if1.if-not-is_standing.false-raw)
+    c.result_of.ensures

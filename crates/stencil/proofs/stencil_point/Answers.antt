@@ -1,0 +1,29 @@
+-- `stencil_point`: by the number of the question.
+use Prim.Native.Nat.{ℕ}
+use mathlib.Core.Path.{sym, ap, ◌∙◌}
+use borrow.Author.Rules.{rules}
+use Rattle.stencil.specs.Stencil.{point_at}
+use Rattle.stencil.proofs.Laws.{point_past}
+use Rattle.stencil.proofs.stencil_point.Goals as goal
+
+pub returns-then-k-eq0 : goal.returns-then-k-eq0
+returns-then-k-eq0 c = ap (λ (k : ℕ). point_at k c.args.p) (sym c.if-k-eq0.true)
+
+pub returns-then-k-eq1 : goal.returns-then-k-eq1
+returns-then-k-eq1 c = c.mv_plus.ensures ∙ ap (λ (k : ℕ). point_at k c.args.p) (sym c.if-k-eq1.true)
+
+pub returns-then-k-eq2 : goal.returns-then-k-eq2
+returns-then-k-eq2 c = c.mv_minus.ensures ∙ ap (λ (k : ℕ). point_at k c.args.p) (sym c.if-k-eq2.true)
+
+pub returns-then-k-eq3 : goal.returns-then-k-eq3
+returns-then-k-eq3 c = c.bc_plus.ensures ∙ ap (λ (k : ℕ). point_at k c.args.p) (sym c.if-k-eq3.true)
+
+pub returns : goal.returns
+returns c =
+    let at-if4 = c in
+    let at-if3 = at-if4 in
+    let at-if2 = at-if3 in
+    let at-if1 = at-if2 in
+    let start = at-if1 in
+    c.bc_minus.ensures ∙ point_past start.args.k start.args.p at-if1.if-k-eq0.false at-if2.if-k-eq1.false at-if3.if-k-eq2.false
+    at-if4.if-k-eq3.false
