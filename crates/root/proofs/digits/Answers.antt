@@ -1,13 +1,13 @@
 -- `root::digits` meets its contract. With p the weight of the last digit, the invariant is 2 * q * q + r * p ≡ 2 * m * 2 ^ 52, with r too small for another
 -- digit there. The measure is the digits that are left. Assumes nothing.
 use mathlib.Core.Path.{◌≡◌, refl, sym, ap, ◌∙◌}
-use mathlib.Core.Logic.{⊎_elim}
 use Prim.Native.Nat.{ℕ, zero, suc, ◌+◌, ◌-◌, ◌*◌, ◌/◌, ◌^◌, ◌≤◌, ◌<◌}
 use native.Mathlib.Nat.{mul-one, zero-lt-suc}
 use native.Mathlib.Omega.{arith}
 use Rattle.root.proofs.Squares.{twice_pred}
 use Rattle.root.proofs.digits.Invariants.{Digits}
 use Rattle.root.proofs.digits.Goals as goal
+use Rattle.root.proofs.digits.Goals.{then-t-r, else-t-r}
 
 -- ---- one turn, with h half of the weight
 
@@ -79,7 +79,7 @@ pub overflow_add-q : goal.overflow_add-q
 overflow_add-q c = omega arith
 
 pub overflow_mul-r : goal.overflow_mul-r
-overflow_mul-r c = ⊎_elim (λ w. omega arith) (λ w. omega arith) c.if-t-r.branch
+overflow_mul-r c = elim c.if-t-r.branch [ then-t-r w ↦ omega arith | else-t-r w ↦ omega arith ]
 
 pub loop-k-smaller : goal.loop-k-smaller
 loop-k-smaller c = omega arith
@@ -89,10 +89,10 @@ loop-k-preserved c =
     let l = c.loop-k in
     let m = c.args.m in
     let more : 0 < l.k = omega arith in
-    ⊎_elim
-    (λ w. rw (w.1, w.2) (digit_taken m l.q l.r l.p l.k more l.invariant w.0.taken))
-    (λ w. rw (w.1, w.2) (digit_left m l.q l.r l.p l.k more l.invariant w.0.left))
-    c.if-t-r.branch
+    elim c.if-t-r.branch [
+      then-t-r w ↦ rw (w.q-is, w.r-is) (digit_taken m l.q l.r l.p l.k more l.invariant w.if-t-r.true)
+      | else-t-r w ↦ rw (w.q-is, w.r-is) (digit_left m l.q l.r l.p l.k more l.invariant w.if-t-r.false)
+    ]
 
 pub overflow_mul-q : goal.overflow_mul-q
 overflow_mul-q c = omega arith
