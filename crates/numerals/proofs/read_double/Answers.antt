@@ -16,7 +16,6 @@ returns-in_default c =
 
 pub returns : goal.returns
 returns c =
-    let b = c.b-1.given in
     ap some c.double.ensures
-    ∙ a_double c.args.s.now (some b.0.0) c.if-s-ne16.false
-    (sym (ap says_count b.1) ∙ c.number.ensures)
+    ∙ a_double c.args.s.now (some c.in-Count.b) c.if-s-ne16.false
+    (sym (ap says_count c.in-Count.is) ∙ c.number.ensures)

@@ -15,8 +15,7 @@ loop-i-init c = (refl, search rules, refl)
 
 pub glyph-requires : goal.glyph-requires
 glyph-requires c =
-    let a = c in
-    omega (arith, mod-lt c.loop-i.rest a.requires.0.0)
+    omega (arith, mod-lt c.loop-i.rest c.requires.base_nonzero.0)
 
 pub loop-i-preserved : goal.loop-i-preserved
 loop-i-preserved c =

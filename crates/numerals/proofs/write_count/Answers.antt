@@ -6,7 +6,8 @@ use borrow.Author.Rules.{rules}
 use Rattle.numerals.proofs.write_count.Goals as goal
 
 pub spell-requires : goal.spell-requires
-spell-requires c = ((omega arith, omega arith), omega (arith, c.places-k.ensures, places_most 19 c.args.n))
+spell-requires c =
+    record { base_nonzero = (omega arith, omega arith); k_in_bounds = omega (arith, c.places-k.ensures, places_most 19 c.args.n) }
 
 pub returns : goal.returns
 returns c =

@@ -7,7 +7,7 @@ pub returns-then-x : goal.returns-then-x
 returns-then-x c = abs_below c.args.x c.if-x.true
 
 pub returns-then-x-2 : goal.returns-then-x-2
-returns-then-x-2 c = abs_level c.args.x c.well-formed.0.1 c.if-x-2.true
+returns-then-x-2 c = abs_level c.args.x c.well_formed.0.1 c.if-x-2.true
 
 pub returns : goal.returns
 returns c = abs_other c.args.x c.if-x.false c.if-x-2.false

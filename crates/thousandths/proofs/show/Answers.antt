@@ -1,7 +1,7 @@
 -- `thousandths::show` meets its contract: what is not finite, what is too wide, and the rest by its thousandths. Assumes nothing.
 use Prim.Native.Nat.{ℕ, ◌*◌, ◌%◌, ◌^◌, ◌<◌}
 use mathlib.Core.Path.{◌≡◌, sym, ap, ◌∙◌, subst}
-use mathlib.Core.Bool.{Bool}
+use mathlib.Core.Bool.{Bool, true}
 use native.Mathlib.Omega.{arith}
 use borrow.Author.Rules.{rules}
 use lib.Dec.{T, leb}
@@ -17,12 +17,12 @@ use Rattle.thousandths.proofs.Patterns.{bits_value, shown_value, nan_shown, not_
 use Rattle.thousandths.proofs.show.Goals as goal
 
 -- what owning an `f64` tells: the format holds it, so it is read back from its pattern
-read_back : (c : goal.Start) → of_bits binary64 (to_bits binary64 c.args.x) ≡ c.args.x
-read_back c = of_bits-to_bits binary64 c.args.x (subst T (sym c.well-formed.0.1) tt)
+read_back : (x : Float) → fits binary64 x ≡ true → of_bits binary64 (to_bits binary64 x) ≡ x
+read_back x e = of_bits-to_bits binary64 x (subst T (sym e) tt)
 
 -- what a finite pattern is shown as
-of_bits : (b : ℕ) → b % 2 ^ 63 < infinity → shown_of (of_bits binary64 b) ≡ shown_at (leb (2 ^ 63) b) (closest (magnitude (b % 2 ^ 63) * 1000) (2 ^ 1074))
-of_bits b h = shown_value (of_bits binary64 b) (leb (2 ^ 63) b) (magnitude (b % 2 ^ 63)) (2 ^ 1074) (pow_pos 1074) (bits_value b h)
+of_pattern : (b : ℕ) → b % 2 ^ 63 < infinity → shown_of (of_bits binary64 b) ≡ shown_at (leb (2 ^ 63) b) (closest (magnitude (b % 2 ^ 63) * 1000) (2 ^ 1074))
+of_pattern b h = shown_value (of_bits binary64 b) (leb (2 ^ 63) b) (magnitude (b % 2 ^ 63)) (2 ^ 1074) (pow_pos 1074) (bits_value b h)
 
 pub returns-then-x : goal.returns-then-x
 returns-then-x c = nan_shown c.args.x c.if-x.true
@@ -32,20 +32,17 @@ float_to_bits-b c = not_nan c.args.x c.if-x.false
 
 pub returns-then-a-ge-INFINITY : goal.returns-then-a-ge-INFINITY
 returns-then-a-ge-INFINITY c =
-    let start = c in
-    not_finite (to_bits binary64 start.args.x) c.if-a-ge-INFINITY.true ∙ ap shown_of (read_back start)
+    not_finite (to_bits binary64 c.args.x) c.if-a-ge-INFINITY.true ∙ ap shown_of (read_back c.args.x c.well_formed.0.1)
 
 pub returns-then-a-ge-WIDE : goal.returns-then-a-ge-WIDE
 returns-then-a-ge-WIDE c =
-    let start = c in
-    let b = to_bits binary64 start.args.x in
-    wide_shown (leb (2 ^ 63) b) (b % 2 ^ 63) c.if-a-ge-WIDE.true ∙ sym (of_bits b c.if-a-ge-INFINITY.false) ∙ ap shown_of (read_back start)
+    let b = to_bits binary64 c.args.x in
+    wide_shown (leb (2 ^ 63) b) (b % 2 ^ 63) c.if-a-ge-WIDE.true ∙ sym (of_pattern b c.if-a-ge-INFINITY.false) ∙ ap shown_of (read_back c.args.x c.well_formed.0.1)
 
 pub returns : goal.returns
 returns c =
-    let start = c in
-    let b = to_bits binary64 start.args.x in
+    let b = to_bits binary64 c.args.x in
     c.fixed.ensures
     ∙ ap (λ (q : ℕ). shown_at (leb (2 ^ 63) b) q) c.thousandths.ensures
-    ∙ sym (of_bits b c.if-a-ge-INFINITY.false)
-    ∙ ap shown_of (read_back start)
+    ∙ sym (of_pattern b c.if-a-ge-INFINITY.false)
+    ∙ ap shown_of (read_back c.args.x c.well_formed.0.1)

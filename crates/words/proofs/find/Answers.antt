@@ -23,13 +23,13 @@ pub returns-then-is_word : goal.returns-then-is_word
 returns-then-is_word c =
     let s = c.args.s.now in
     let l = c.loop-k in
-    omega (arith, ahead_here s l.k (omega arith) (sym c.is_IsWord.ensures ∙ c.if-is_word.true))
+    omega (arith, ahead_here s l.k (omega arith) (sym c.is_word.ensures ∙ c.if-is_word.true))
 
 pub loop-k-preserved : goal.loop-k-preserved
 loop-k-preserved c =
     let s = c.args.s.now in
     let l = c.loop-k in
-    let e = ahead_on s l.k (omega arith) (sym c.is_IsWord.ensures ∙ c.if-is_word.false) in
+    let e = ahead_on s l.k (omega arith) (sym c.is_word.ensures ∙ c.if-is_word.false) in
     (omega arith, rw add-one (omega (arith, e)))
 
 pub returns : goal.returns
