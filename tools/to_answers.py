@@ -55,7 +55,7 @@ class Fn:
         while i < len(fields):
             f = fields[i]
             hit = None
-            for k in chain:
+            for k in chain if i == 0 else []:
                 p = self.places[k]
                 if p[2][0] and norm(p[2][0]) == norm(f):
                     hit = k
@@ -97,13 +97,52 @@ class Fn:
         return out
 
     def turn(self, text, chain):
+        # a name for the place itself is the place
+        alias = {"c"}
+        lines, out = text.split("\n"), []
+        for l in lines:
+            m = re.match(r"^(.*?)let (" + NAME + r") = (" + NAME + r")((?:\.before)*) in$", l)
+            if m and m.group(3) in alias and m.group(1).strip() in ("",):
+                alias.add(m.group(2))
+                continue
+            out.append(l)
+        alias.discard("c")
+        text = "\n".join(out)
+        if alias:
+            text = re.sub(r"(?<![\w'.₀-₉-])" + NAME, lambda w: "c" if w.group(0) in alias else w.group(0), text)
         def one(m):
             base, fields = m.group(1), m.group(2)[1:].split(".")
             if base in ("tie", "lib", "native", "borrow", "mathlib", "Prim", "Rattle"):
                 return m.group(0)
             fields = self.turn_fields(fields, chain, None)
-            return ".".join([base] + fields)
+            got = []
+            for f in fields:
+                m2 = re.fullmatch(r"t(\d+)", f)
+                if m2 and 1 <= int(m2.group(1)) <= len(self.own):
+                    f = self.own[int(m2.group(1)) - 1]
+                if f == "well-formed":
+                    f = "well_formed"
+                if f == "is_IsWord":
+                    f = "is_word"
+                if "-" in f and f.replace("-", "_") in self.own:
+                    f = f.replace("-", "_")
+                got.append(f)
+            if base == "o" and got[:1] == ["decreases"]:
+                got[0] = "measured"
+            return ".".join([base] + got)
         return PATH.sub(one, text)
+
+
+def own_params(crate, key):
+    """The names of a function's parameters, from its source."""
+    name = key[:-len(".Lts")].split("proofs.", 1)[1].split(".")[-1]
+    src = os.path.join(TOP, "crates", crate, "src")
+    for f in sorted(os.listdir(src)):
+        if f.endswith(".rt"):
+            m = re.search(r"fn " + name + r"(?:<[^>]*>)?\(([^{]*?)\)\s*(?:->|ensures|requires|\{|where)", open(os.path.join(src, f), encoding="utf-8").read(), re.S)
+            if m:
+                return [x.split(":")[0].replace("mut ", "").replace("&", "").strip() for x in re.split(r",(?![^\[(<]*[\])>])", m.group(1)) if x.strip()]
+    return []
 
 
 def blocks(text):
@@ -130,6 +169,7 @@ def turn_file(crate, folder, key, names):
     if " as tie" not in text or key not in names:
         return "left"
     fn = Fn(names[key])
+    fn.own = own_params(crate, key)
     module = key[:-len(".Lts")].replace("Rattle-" + crate + "-proofs", "Rattle." + crate + ".proofs")
     head, uses, rest = [], [], []
     lines = text.split("\n")
@@ -266,6 +306,13 @@ def turn_file(crate, folder, key, names):
         t = re.sub(r"(?<=[ (])((?:invariant|decreases)-loop\d*)(?= (?:invariant|decreases)-loop)", "", t)
         ans_out.append("\n".join(notes + ["pub %s : goal.%s" % (new, new), t]))
     every = list(range(len(fn.places)))
+    # a helper at the start that the search alone proves stands where it is cited
+    for b in list(helpers):
+        m = re.fullmatch(r"(" + NAME + r") : \(c : tie\.Start[^)]*\) → [^\n]*\n\1 c = search rules", b.strip())
+        if m:
+            helpers.remove(b)
+            for i, t in enumerate(ans_out):
+                ans_out[i] = re.sub(r"\(" + re.escape(m.group(1)) + r" (?:\([\w.-]+\)|[\w.-]+)\)", "(search rules)", t)
     helpers_out = [fn.turn(goal_types(b), every) for b in helpers if b not in inv_helpers]
     comment = "\n".join(head).rstrip("\n")
     if inv_out:
