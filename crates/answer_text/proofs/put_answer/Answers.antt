@@ -14,9 +14,8 @@ shape_of-out-in-Question c = same_room c.put_question.ensures
 pub returns-in-Question : goal.returns-in-Question
 unfolding answer_text
 returns-in-Question c =
-    let step = c in
-    let a = step.args.a in
-    as_text c.put_question.ensures (sym (ap (λ (x : Step). said_text x (report_in (state a.session))) step.in-Question.is))
+    let a = c.args.a in
+    as_text c.put_question.ensures (sym (ap (λ (x : Step). said_text x (report_in (state a.session))) c.in-Question.is))
 
 pub shape_of-out-in-Report : goal.shape_of-out-in-Report
 shape_of-out-in-Report c = same_room c.put_report.ensures
@@ -24,10 +23,8 @@ shape_of-out-in-Report c = same_room c.put_report.ensures
 pub returns-in-Report : goal.returns-in-Report
 unfolding answer_text
 returns-in-Report c =
-    let c1 = c in
-    let c2 = c1 in
-    let a = c2.args.a in
-    as_text c.put_report.ensures (sym (ap (λ (x : Step). said_text x (report_in (state a.session))) c1.in-Report.is))
+    let a = c.args.a in
+    as_text c.put_report.ensures (sym (ap (λ (x : Step). said_text x (report_in (state a.session))) c.in-Report.is))
 
 pub shape_of-out-in-Refused : goal.shape_of-out-in-Refused
 shape_of-out-in-Refused c = same_room c.put_declined.ensures
@@ -35,7 +32,5 @@ shape_of-out-in-Refused c = same_room c.put_declined.ensures
 pub returns-in-Refused : goal.returns-in-Refused
 unfolding answer_text
 returns-in-Refused c =
-    let c1 = c in
-    let c2 = c1 in
-    let a = c2.args.a in
-    as_text c.put_declined.ensures (sym (ap (λ (x : Step). said_text x (report_in (state a.session))) c1.in-Refused.is))
+    let a = c.args.a in
+    as_text c.put_declined.ensures (sym (ap (λ (x : Step). said_text x (report_in (state a.session))) c.in-Refused.is))

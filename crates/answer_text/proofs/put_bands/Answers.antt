@@ -26,9 +26,7 @@ loop-i-init c =
 
 pub shape_of-out-in_default : goal.shape_of-out-in_default
 shape_of-out-in_default c =
-    let c1 = c in
-    let c2 = c1 in
-    same_room (then c2.put_byte-next.ensures (then c1.loop-i.invariant.1 c.put_byte.ensures))
+    same_room (then c.put_byte-next.ensures (then c.loop-i.invariant.1 c.put_byte.ensures))
 
 pub returns-in_default : goal.returns-in_default
 unfolding bands_text bracketed
@@ -62,9 +60,7 @@ loop-i-preserved c =
 
 pub shape_of-out : goal.shape_of-out
 shape_of-out c =
-    let c1 = c in
-    let c2 = c1 in
-    same_room (then c2.put_byte-next.ensures (then c1.loop-i.invariant.1 c.put_byte-2.ensures))
+    same_room (then c.put_byte-next.ensures (then c.loop-i.invariant.1 c.put_byte-2.ensures))
 
 pub returns : goal.returns
 unfolding bands_text bracketed

@@ -14,26 +14,20 @@ shape_of-out-in-Absent c = same_room c.put_bytes.ensures
 
 pub returns-in-Absent : goal.returns-in-Absent
 returns-in-Absent c =
-    let c1 = c in
-    let c2 = c1 in
     as_text c.put_bytes.ensures
     (sym (ap standing_text
-    (none_stands (report_in (state c2.args.s))
-    (subst (λ (x : Shown). Shows x (report_in (state c2.args.s))) c1.in-Absent.is c1.report.ensures.is))))
+    (none_stands (report_in (state c.args.s))
+    (subst (λ (x : Shown). Shows x (report_in (state c.args.s))) c.in-Absent.is c.report.ensures.is))))
 
 pub shape_of-out-in-Given : goal.shape_of-out-in-Given
 shape_of-out-in-Given c =
-    let c1 = c in
-    let c2 = c1 in
-    let s = c2.args.s in
+    let s = c.args.s in
     same_room
-    (one_stands (report_in (state s)) _ (subst (λ (x : Shown). Shows x (report_in (state s))) c1.in-Given.is c1.report.ensures.is)
+    (one_stands (report_in (state s)) _ (subst (λ (x : Shown). Shows x (report_in (state s))) c.in-Given.is c.report.ensures.is)
     c.put_shown.ensures)
 
 pub returns-in-Given : goal.returns-in-Given
 returns-in-Given c =
-    let c1 = c in
-    let c2 = c1 in
-    let s = c2.args.s in
-    one_stands (report_in (state s)) _ (subst (λ (x : Shown). Shows x (report_in (state s))) c1.in-Given.is c1.report.ensures.is)
+    let s = c.args.s in
+    one_stands (report_in (state s)) _ (subst (λ (x : Shown). Shows x (report_in (state s))) c.in-Given.is c.report.ensures.is)
     c.put_shown.ensures

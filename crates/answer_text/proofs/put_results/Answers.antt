@@ -23,16 +23,14 @@ loop-i-init c =
 
 pub shape_of-out-in_default : goal.shape_of-out-in_default
 shape_of-out-in_default c =
-    let c1 = c in
-    let c2 = c1 in
-    same_room (then c2.put_byte-next.ensures (then c1.loop-i.invariant.1 c.put_byte.ensures))
+    same_room (then c.put_byte-next.ensures (then c.loop-i.invariant.1 c.put_byte.ensures))
 
 pub returns-in_default : goal.returns-in_default
 unfolding results_text bracketed
 returns-in_default c =
     let a = c.args in
     let l = c.loop-i in
-    let xs = results_in a.of-baseline a.s in
+    let xs = results_in a.of_baseline a.s in
     let e = sym c.result-found.ensures ∙ ap result_says c.in_default.is in
     as_text (then c.put_byte-next.ensures
     (then l.invariant.1 c.put_byte.ensures))
@@ -48,7 +46,7 @@ pub loop-i-preserved : goal.loop-i-preserved
 loop-i-preserved c =
     let a = c.args in
     let l = c.loop-i in
-    let xs = results_in a.of-baseline a.s in
+    let xs = results_in a.of_baseline a.s in
     let e =
     sym c.result-found.ensures
     ∙ ap result_says c.in-Given.is in
@@ -56,16 +54,14 @@ loop-i-preserved c =
 
 pub shape_of-out : goal.shape_of-out
 shape_of-out c =
-    let c1 = c in
-    let c2 = c1 in
-    same_room (then c2.put_byte-next.ensures (then c1.loop-i.invariant.1 c.put_byte-2.ensures))
+    same_room (then c.put_byte-next.ensures (then c.loop-i.invariant.1 c.put_byte-2.ensures))
 
 pub returns : goal.returns
 unfolding results_text bracketed
 returns c =
     let a = c.args in
     let l = c.loop-i in
-    let xs = results_in a.of-baseline a.s in
+    let xs = results_in a.of_baseline a.s in
     let k : l.i ≡ a.n = omega arith in
     as_text
     (then c.put_byte-next.ensures (then l.invariant.1 c.put_byte-2.ensures))

@@ -26,11 +26,10 @@ returns-then-variance c = kept _ _ _ c.if-variance.true
 pub returns-then-variance-tolerance : goal.returns-then-variance-tolerance
 unfolding band_variance_of
 returns-then-variance-tolerance c =
-    let c1 = c in
     simp (
-      ← c1.abs.ensures,
-      ← c1.abs-2.ensures,
-      ← c1.max-larger.ensures,
+      ← c.abs.ensures,
+      ← c.abs-2.ensures,
+      ← c.max-larger.ensures,
       ← c.max-tolerance.ensures,
       c.if-variance.false,
       c.if-variance-tolerance.true,
@@ -39,11 +38,10 @@ returns-then-variance-tolerance c =
 pub returns : goal.returns
 unfolding band_variance_of
 returns c =
-    let c1 = c in
     simp (
-      ← c1.abs.ensures,
-      ← c1.abs-2.ensures,
-      ← c1.max-larger.ensures,
+      ← c.abs.ensures,
+      ← c.abs-2.ensures,
+      ← c.max-larger.ensures,
       ← c.max-tolerance.ensures,
       c.if-variance.false,
       c.if-variance-tolerance.false,

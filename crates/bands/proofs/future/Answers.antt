@@ -14,6 +14,4 @@ returns-in-Absent-sigma c = simp (c.in-Present.is, c.in-Absent-sigma.is)
 pub returns-in-Given : goal.returns-in-Given
 unfolding future_of
 returns-in-Given c =
-    let c1 = c in
-    let c2 = c1 in
-    simp (c2.in-Present.is, c1.in-Given.is, ← c.from_variance.ensures)
+    simp (c.in-Present.is, c.in-Given.is, ← c.from_variance.ensures)

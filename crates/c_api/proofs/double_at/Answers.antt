@@ -8,5 +8,4 @@ use Rattle.c_api.proofs.double_at.Goals as goal
 
 pub returns : goal.returns
 returns c =
-    let s = c in
-    c.double.ensures ∙ ap (λ (k : ℕ). of_bits binary64 k) (c.word.ensures ∙ read_8 s.args.bytes.now s.args.at s.requires)
+    c.double.ensures ∙ ap (λ (k : ℕ). of_bits binary64 k) (c.word.ensures ∙ read_8 c.args.bytes.now c.args.at c.requires)

@@ -18,19 +18,15 @@ places stride offset n bytes h e f = f ∙ ap (take n) e ∙ column_take stride 
 
 pub returns : goal.returns
 returns c =
-    let c1 = c in
-    let c2 = c1 in
-    let c3 = c2 in
-    let s = c3 in
-    let a = s.args in
+    let a = c.args in
     let obs = a.observations.now in
     c.objective_sum.ensures
     ∙ sum_by a.priors a.p a.n obs a.replies.now
-    c2.first_places.result.now
-    c1.first_places-2.result.now
-    c1.first_places-3.result.now
+    c.first_places.result.now
+    c.first_places-2.result.now
+    c.first_places-3.result.now
     c.first_places-4.result.now
-    (places 24 0 a.n obs s.requires.0 c3.column-ranges.ensures c2.first_places.ensures)
-    (places 24 8 a.n obs s.requires.0 c3.column-drops.ensures c1.first_places-2.ensures)
-    (places 24 16 a.n obs s.requires.0 c3.column-sigmas.ensures c1.first_places-3.ensures)
-    (places 8 0 a.n a.replies.now s.requires.0 c2.column-predicted.ensures c.first_places-4.ensures)
+    (places 24 0 a.n obs c.requires.0 c.column-ranges.ensures c.first_places.ensures)
+    (places 24 8 a.n obs c.requires.0 c.column-drops.ensures c.first_places-2.ensures)
+    (places 24 16 a.n obs c.requires.0 c.column-sigmas.ensures c.first_places-3.ensures)
+    (places 8 0 a.n a.replies.now c.requires.0 c.column-predicted.ensures c.first_places-4.ensures)

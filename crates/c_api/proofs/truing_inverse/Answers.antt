@@ -17,27 +17,23 @@ returns-then-out-lt-INVERSE c =
 
 pub returns-in-NonFiniteInformation : goal.returns-in-NonFiniteInformation
 returns-in-NonFiniteInformation c =
-    let c1 = c in
-    let a = c1.args in
+    let a = c.args in
     let s : Symmetric2 = record { a00 = a.a00; a01 = a.a01; a11 = a.a11 } in
     answered (inverse_outcome s a.out.now)
-    (inverse_by s a.out.now non_finite c1.if-out-lt-INVERSE.false (sym (ap says c.in-NonFiniteInformation.is) ∙ c.inverse_with_condition-found.ensures))
+    (inverse_by s a.out.now non_finite c.if-out-lt-INVERSE.false (sym (ap says c.in-NonFiniteInformation.is) ∙ c.inverse_with_condition-found.ensures))
 
 pub returns-in-RankDeficientInformation : goal.returns-in-RankDeficientInformation
 returns-in-RankDeficientInformation c =
-    let c1 = c in
-    let a = c1.args in
+    let a = c.args in
     let s : Symmetric2 = record { a00 = a.a00; a01 = a.a01; a11 = a.a11 } in
     answered (inverse_outcome s a.out.now)
-    (inverse_by s a.out.now rank_deficient c1.if-out-lt-INVERSE.false (sym (ap says c.in-RankDeficientInformation.is) ∙ c.inverse_with_condition-found.ensures))
+    (inverse_by s a.out.now rank_deficient c.if-out-lt-INVERSE.false (sym (ap says c.in-RankDeficientInformation.is) ∙ c.inverse_with_condition-found.ensures))
 
 pub returns-in-Found : goal.returns-in-Found
 returns-in-Found c =
-    let c1 = c in
-    let c2 = c1 in
-    let a = c2.args in
+    let a = c.args in
     let s : Symmetric2 = record { a00 = a.a00; a01 = a.a01; a11 = a.a11 } in
-    let f = c1.found-1.given in
+    let f = c.found-1.given in
     answered (inverse_outcome s a.out-1.now)
-    (inverse_by s a.out-1.now (inverse f.0.0 f.0.1.0) c2.if-out-lt-INVERSE.false (sym (ap says f.1) ∙ c1.inverse_with_condition-found.ensures)
+    (inverse_by s a.out-1.now (inverse f.0.0 f.0.1.0) c.if-out-lt-INVERSE.false (sym (ap says f.1) ∙ c.inverse_with_condition-found.ensures)
     ∙ ap (λ (l : List ℕ). record { code = 0; out = l }) (sym c.put_inverse.ensures))

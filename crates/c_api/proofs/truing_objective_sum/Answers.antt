@@ -11,7 +11,7 @@ use Rattle.c_api.proofs.truing_objective_sum.Goals as goal
 pub returns-then-observations-n : goal.returns-then-observations-n
 returns-then-observations-n c =
     let a = c.args in
-    let q = priors_of a.priors a.speed-mean a.speed-sigma a.coefficient-mean a.coefficient-sigma in
+    let q = priors_of a.priors a.speed_mean a.speed_sigma a.coefficient_mean a.coefficient_sigma in
     let p : Point = record { mv = a.speed; bc = a.coefficient } in
     let o = sum_outcome q p a.observations.now a.replies.now a.out.now in
     answered o (sum_1 q p a.observations.now a.replies.now a.out.now c.if-observations-n.true)
@@ -19,7 +19,7 @@ returns-then-observations-n c =
 pub returns-then-replies-n : goal.returns-then-replies-n
 returns-then-replies-n c =
     let a = c.args in
-    let q = priors_of a.priors a.speed-mean a.speed-sigma a.coefficient-mean a.coefficient-sigma in
+    let q = priors_of a.priors a.speed_mean a.speed_sigma a.coefficient_mean a.coefficient_sigma in
     let p : Point = record { mv = a.speed; bc = a.coefficient } in
     let o = sum_outcome q p a.observations.now a.replies.now a.out.now in
     answered o (sum_2 q p a.observations.now a.replies.now a.out.now c.if-observations-n.false c.if-replies-n.true)
@@ -27,7 +27,7 @@ returns-then-replies-n c =
 pub returns-then-out-lt-DOUBLE : goal.returns-then-out-lt-DOUBLE
 returns-then-out-lt-DOUBLE c =
     let a = c.args in
-    let q = priors_of a.priors a.speed-mean a.speed-sigma a.coefficient-mean a.coefficient-sigma in
+    let q = priors_of a.priors a.speed_mean a.speed_sigma a.coefficient_mean a.coefficient_sigma in
     let p : Point = record { mv = a.speed; bc = a.coefficient } in
     let o = sum_outcome q p a.observations.now a.replies.now a.out.now in
     answered o (sum_3 q p a.observations.now a.replies.now a.out.now c.if-observations-n.false c.if-replies-n.false c.if-out-lt-DOUBLE.true)
@@ -35,7 +35,7 @@ returns-then-out-lt-DOUBLE c =
 pub sum-requires : goal.sum-requires
 sum-requires c =
     let a = c.args in
-    let q = priors_of a.priors a.speed-mean a.speed-sigma a.coefficient-mean a.coefficient-sigma in
+    let q = priors_of a.priors a.speed_mean a.speed_sigma a.coefficient_mean a.coefficient_sigma in
     let p : Point = record { mv = a.speed; bc = a.coefficient } in
     let o = sum_outcome q p a.observations.now a.replies.now a.out.now in
     let room = sum_room q p a.observations.now a.replies.now a.out.now c.if-observations-n.false in
@@ -43,14 +43,11 @@ sum-requires c =
 
 pub returns : goal.returns
 returns c =
-    let c1 = c in
-    let c2 = c1 in
-    let c3 = c2 in
-    let a = c3.args in
-    let q = priors_of a.priors a.speed-mean a.speed-sigma a.coefficient-mean a.coefficient-sigma in
+    let a = c.args in
+    let q = priors_of a.priors a.speed_mean a.speed_sigma a.coefficient_mean a.coefficient_sigma in
     let p : Point = record { mv = a.speed; bc = a.coefficient } in
     let o = sum_outcome q p a.observations.now a.replies.now a.out-1.now in
     answered o
-    (sum_0 q p a.observations.now a.replies.now a.out-1.now c2.if-observations-n.false c2.if-replies-n.false
-    c.put_double.new.out c2.if-out-lt-DOUBLE.false
-    (c.put_double.ensures ∙ rw (c1.sum.ensures, c1.priors_of-given.ensures)))
+    (sum_0 q p a.observations.now a.replies.now a.out-1.now c.if-observations-n.false c.if-replies-n.false
+    c.put_double.new.out c.if-out-lt-DOUBLE.false
+    (c.put_double.ensures ∙ rw (c.sum.ensures, c.priors_of-given.ensures)))

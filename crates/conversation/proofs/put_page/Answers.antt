@@ -6,13 +6,9 @@ use Rattle.conversation.proofs.put_page.Goals as goal
 
 pub shape_of-out : goal.shape_of-out
 shape_of-out c =
-    let c1 = c in
-    let c2 = c1 in
-    same_room (then c2.put_page_count-at.ensures (then c1.put_byte-at.ensures c.put_page.ensures))
+    same_room (then c.put_page_count-at.ensures (then c.put_byte-at.ensures c.put_page.ensures))
 
 pub returns : goal.returns
 returns c =
-    let c1 = c in
-    let c2 = c1 in
-    as_text (then c2.put_page_count-at.ensures (then c1.put_byte-at.ensures c.put_page.ensures)) (page_head _ _ _
-    c2.lines.ensures)
+    as_text (then c.put_page_count-at.ensures (then c.put_byte-at.ensures c.put_page.ensures)) (page_head _ _ _
+    c.lines.ensures)

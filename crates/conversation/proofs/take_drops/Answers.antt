@@ -15,7 +15,7 @@ pub returns : goal.returns
 unfolding answer_to
 returns c = λ u k.
     let a = c.args in
-    let p = a.l.reply-1 in
+    let p = a.l.reply in
     let wide : length p.drops ≡ 65 = c.first_places-arg-2-1.given.0 in
     let flags : length p.missing ≡ 65 = c.first_flags-arg-2-1.given.0 in
     let same : length (take p.n p.missing) ≡ length (take p.n p.drops) = simp length-take (ap (min p.n) (flags ∙ sym wide)) in

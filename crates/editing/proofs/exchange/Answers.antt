@@ -10,51 +10,28 @@ use Rattle.editing.proofs.exchange.Goals as goal
 
 pub returns-then-not-is_placed : goal.returns-then-not-is_placed
 returns-then-not-is_placed c =
-    let at-if1 = c in
-    let at-is-placed = at-if1 in
-    let at_p = at-is-placed in
-    let at-standing-fit = at_p in
-    let start = at-standing-fit in
-    not_placed start.args.s at-standing-fit.standing_fit.result at-standing-fit.standing_fit.ensures _ _ at_p.in-FittedAt.is
-    (exchange start.args.place (requested_of start.args.range start.args.sigma)) _
-    (failed _ _ at-is-placed.is_placed.ensures at-if1.if-not-is_placed.true-raw) c.declined-then-not-is_placed.ensures
+    not_placed c.args.s c.standing_fit.result c.standing_fit.ensures _ _ c.in-FittedAt.is
+    (exchange c.args.place (requested_of c.args.range c.args.sigma)) _
+    (failed _ _ c.is_placed.ensures c.if-not-is_placed.true-raw) c.declined-then-not-is_placed.ensures
 
 pub returns-then-not-is_sound_requested : goal.returns-then-not-is_sound_requested
 returns-then-not-is_sound_requested c =
-    let at-if2 = c in
-    let at-is-sound-requested = at-if2 in
-    let at-if1 = at-is-sound-requested in
-    let at-is-placed = at-if1 in
-    let at_p = at-is-placed in
-    let at-standing-fit = at_p in
-    let start = at-standing-fit in
-    faulty_exchange start.args.s at-standing-fit.standing_fit.result at-standing-fit.standing_fit.ensures _ _ at_p.in-FittedAt.is
-    start.args.place
-    (requested_of start.args.range start.args.sigma) _
-    (sym at-is-placed.is_placed.ensures ∙ not-false _ at-if1.if-not-is_placed.false-raw)
-    (failed _ _ at-is-sound-requested.is_sound_requested.ensures at-if2.if-not-is_sound_requested.true-raw) c.closed_with.ensures
+    faulty_exchange c.args.s c.standing_fit.result c.standing_fit.ensures _ _ c.in-FittedAt.is
+    c.args.place
+    (requested_of c.args.range c.args.sigma) _
+    (sym c.is_placed.ensures ∙ not-false _ c.if-not-is_placed.false-raw)
+    (failed _ _ c.is_sound_requested.ensures c.if-not-is_sound_requested.true-raw) c.closed_with.ensures
 
 pub returns-in-Unfitted : goal.returns-in-Unfitted
 returns-in-Unfitted c =
-    let at-enum-told = c in
-    let at-standing-fit = at-enum-told in
-    let start = at-standing-fit in
-    none_edited start.args.s at-standing-fit.standing_fit.result at-standing-fit.standing_fit.ensures
-    (exchange start.args.place (requested_of start.args.range start.args.sigma)) _ at-enum-told.in-Unfitted.is
+    none_edited c.args.s c.standing_fit.result c.standing_fit.ensures
+    (exchange c.args.place (requested_of c.args.range c.args.sigma)) _ c.in-Unfitted.is
     c.declined.ensures
 
 pub returns-else-not-is_sound_requested : goal.returns-else-not-is_sound_requested
 returns-else-not-is_sound_requested c =
-    let at-if2 = c in
-    let at-is-sound-requested = at-if2 in
-    let at-if1 = at-is-sound-requested in
-    let at-is-placed = at-if1 in
-    let at-stored-sigma = at-is-placed in
-    let at_p = at-stored-sigma in
-    let at-standing-fit = at_p in
-    let start = at-standing-fit in
-    begins_exchange start.args.s at-standing-fit.standing_fit.result at-standing-fit.standing_fit.ensures _ _ at_p.in-FittedAt.is
-    start.args.place
-    start.args.range start.args.sigma at-stored-sigma.stored_sigma.result _ at-stored-sigma.stored_sigma.ensures
-    (sym at-is-placed.is_placed.ensures ∙ not-false _ at-if1.if-not-is_placed.false-raw)
-    (sym at-is-sound-requested.is_sound_requested.ensures ∙ not-false _ at-if2.if-not-is_sound_requested.false-raw) c.begin.ensures
+    begins_exchange c.args.s c.standing_fit.result c.standing_fit.ensures _ _ c.in-FittedAt.is
+    c.args.place
+    c.args.range c.args.sigma c.stored_sigma.result _ c.stored_sigma.ensures
+    (sym c.is_placed.ensures ∙ not-false _ c.if-not-is_placed.false-raw)
+    (sym c.is_sound_requested.ensures ∙ not-false _ c.if-not-is_sound_requested.false-raw) c.begin.ensures

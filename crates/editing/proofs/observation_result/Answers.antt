@@ -5,9 +5,7 @@ use Rattle.editing.proofs.observation_result.Goals as goal
 
 pub returns-in-Closed : goal.returns-in-Closed
 returns-in-Closed c =
-    let at-enum-told = c in
-    let start = at-enum-told in
-    run_result start.args.s at-enum-told.in-Closed.is start.args.i _ c.observation_result.ensures
+    run_result c.args.s c.in-Closed.is c.args.i _ c.observation_result.ensures
 
 pub returns-in-Asks : goal.returns-in-Asks
 returns-in-Asks c =

@@ -5,9 +5,7 @@ use Rattle.editing.proofs.predictive_band.Goals as goal
 
 pub returns-in-Closed : goal.returns-in-Closed
 returns-in-Closed c =
-    let at-enum-told = c in
-    let start = at-enum-told in
-    run_band start.args.s at-enum-told.in-Closed.is start.args.i _ c.predictive_band.ensures
+    run_band c.args.s c.in-Closed.is c.args.i _ c.predictive_band.ensures
 
 pub returns-in-Asks : goal.returns-in-Asks
 returns-in-Asks c =

@@ -5,10 +5,7 @@ use Rattle.editing.proofs.refuse.Goals as goal
 
 pub returns-in-Closed : goal.returns-in-Closed
 returns-in-Closed c =
-    let at-refuse = c in
-    let at-enum-told = at-refuse in
-    let start = at-enum-told in
-    run_refused start.args.s at-enum-told.in-Closed.is at-refuse.refuse.result _ at-refuse.refuse.ensures c.of_run.ensures
+    run_refused c.args.s c.in-Closed.is c.refuse.result _ c.refuse.ensures c.of_run.ensures
 
 pub returns-in-Asks : goal.returns-in-Asks
 returns-in-Asks c =

@@ -9,31 +9,17 @@ use Rattle.editing.proofs.reply_new.Goals as goal
 
 pub returns-then-not-right_length : goal.returns-then-not-right_length
 returns-then-not-right_length c =
-    let at-if1 = c in
-    let at-right-length = at-if1 in
-    let at_p = at-right-length in
-    let at-open-point = at_p in
-    let start = at-open-point in
-    wrong_number start.args.run start.args.asking _ (sym at-open-point.open_point.ensures ∙ ap point_says at_p.in-Here.is)
-    start.args.reply.now start.args.missing.now _ (failed _ _ at-right-length.right_length.ensures at-if1.if-not-right_length.true-raw)
+    wrong_number c.args.run c.args.asking _ (sym c.open_point.ensures ∙ ap point_says c.in-Here.is)
+    c.args.reply.now c.args.missing.now _ (failed _ _ c.right_length.ensures c.if-not-right_length.true-raw)
     c.declined-then-not-right_length.ensures
 
 pub returns-in-Absent : goal.returns-in-Absent
 returns-in-Absent c =
-    let at-enum-told = c in
-    let at-open-point = at-enum-told in
-    let start = at-open-point in
-    no_reply start.args.run start.args.asking start.args.reply.now start.args.missing.now _
-    (sym at-open-point.open_point.ensures ∙ ap point_says at-enum-told.in-Absent.is) c.declined.ensures
+    no_reply c.args.run c.args.asking c.args.reply.now c.args.missing.now _
+    (sym c.open_point.ensures ∙ ap point_says c.in-Absent.is) c.declined.ensures
 
 pub returns-else-not-right_length : goal.returns-else-not-right_length
 returns-else-not-right_length c =
-    let at-read-one = c in
-    let at-if1 = at-read-one in
-    let at-right-length = at-if1 in
-    let at_p = at-right-length in
-    let at-open-point = at_p in
-    let start = at-open-point in
-    one_more start.args.run start.args.asking _ (sym at-open-point.open_point.ensures ∙ ap point_says at_p.in-Here.is)
-    start.args.reply.now start.args.missing.now _ at-read-one.read_one-one.result
-    (sym at-right-length.right_length.ensures ∙ not-false _ at-if1.if-not-right_length.false-raw) at-read-one.read_one-one.ensures c.after_reply.ensures
+    one_more c.args.run c.args.asking _ (sym c.open_point.ensures ∙ ap point_says c.in-Here.is)
+    c.args.reply.now c.args.missing.now _ c.read_one-one.result
+    (sym c.right_length.ensures ∙ not-false _ c.if-not-right_length.false-raw) c.read_one-one.ensures c.after_reply.ensures

@@ -9,30 +9,16 @@ use Rattle.editing.proofs.take_out.Goals as goal
 
 pub returns-then-not-is_placed : goal.returns-then-not-is_placed
 returns-then-not-is_placed c =
-    let at-if1 = c in
-    let at-is-placed = at-if1 in
-    let at--p = at-is-placed in
-    let at-standing-fit = at--p in
-    let start = at-standing-fit in
-    not_placed start.args.s at-standing-fit.standing_fit.result at-standing-fit.standing_fit.ensures _ _ at--p.in-FittedAt.is
-    (take_out start.args.place) _ (failed _ _ at-is-placed.is_placed.ensures at-if1.if-not-is_placed.true-raw) c.declined-then-not-is_placed.ensures
+    not_placed c.args.s c.standing_fit.result c.standing_fit.ensures _ _ c.in-FittedAt.is
+    (take_out c.args.place) _ (failed _ _ c.is_placed.ensures c.if-not-is_placed.true-raw) c.declined-then-not-is_placed.ensures
 
 pub returns-in-Unfitted : goal.returns-in-Unfitted
 returns-in-Unfitted c =
-    let at-enum-told = c in
-    let at-standing-fit = at-enum-told in
-    let start = at-standing-fit in
-    none_edited start.args.s at-standing-fit.standing_fit.result at-standing-fit.standing_fit.ensures (take_out start.args.place) _
-    at-enum-told.in-Unfitted.is c.declined.ensures
+    none_edited c.args.s c.standing_fit.result c.standing_fit.ensures (take_out c.args.place) _
+    c.in-Unfitted.is c.declined.ensures
 
 pub returns-else-not-is_placed : goal.returns-else-not-is_placed
 returns-else-not-is_placed c =
-    let at-changed = c in
-    let at-if1 = at-changed in
-    let at-is-placed = at-if1 in
-    let at--p = at-is-placed in
-    let at-standing-fit = at--p in
-    let start = at-standing-fit in
-    taken_out start.args.s at-standing-fit.standing_fit.result at-standing-fit.standing_fit.ensures _ _ at--p.in-FittedAt.is start.args.place _
-    at-changed.changed-shorter.result _ (sym at-is-placed.is_placed.ensures ∙ not-false _ at-if1.if-not-is_placed.false-raw) at-changed.changed-shorter.ensures
+    taken_out c.args.s c.standing_fit.result c.standing_fit.ensures _ _ c.in-FittedAt.is c.args.place _
+    c.changed-shorter.result _ (sym c.is_placed.ensures ∙ not-false _ c.if-not-is_placed.false-raw) c.changed-shorter.ensures
     c.closed_with.ensures

@@ -6,22 +6,16 @@ use Rattle.fitting.proofs.after_iteration.Goals as goal
 
 pub returns-then-is_flat : goal.returns-then-is_flat
 returns-then-is_flat c =
-    let at-if1 = c in
-    let at-is-flat = at-if1 in
-    let start = at-is-flat in
     record {
       leads = λ m ds rows q.
           c.found_flat.ensures.leads m ds
-          ∙ iteration_flat start.args.g start.args.e m ds rows q (sym at-is-flat.is_flat.ensures ∙ at-if1.if-is_flat.true);
+          ∙ iteration_flat c.args.g c.args.e m ds rows q (sym c.is_flat.ensures ∙ c.if-is_flat.true);
     }
 
 pub returns : goal.returns
 returns c =
-    let at-if1 = c in
-    let at-is-flat = at-if1 in
-    let start = at-is-flat in
     record {
       leads = λ m ds rows q.
           c.next_candidate.ensures.leads m ds
-          ∙ iteration_trials start.args.g start.args.e m ds rows q (sym at-is-flat.is_flat.ensures ∙ at-if1.if-is_flat.false);
+          ∙ iteration_trials c.args.g c.args.e m ds rows q (sym c.is_flat.ensures ∙ c.if-is_flat.false);
     }

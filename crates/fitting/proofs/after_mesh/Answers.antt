@@ -6,10 +6,8 @@ use Rattle.fitting.proofs.after_mesh.Goals as goal
 
 pub returns : goal.returns
 returns c =
-    let at-first-pass = c in
-    let start = at-first-pass in
     record {
       leads = λ m ds rows q.
           c.next_look.ensures.leads m ds
-          ∙ mesh_poll start.args.g start.args.e m ds rows q at-first-pass.first_pass-pass.result at-first-pass.first_pass-pass.ensures;
+          ∙ mesh_poll c.args.g c.args.e m ds rows q c.first_pass-pass.result c.first_pass-pass.ensures;
     }

@@ -6,16 +6,11 @@ use Rattle.fitting.proofs.next_candidate.Goals as goal
 
 pub returns-in-Candidate : goal.returns-in-Candidate
 returns-in-Candidate c =
-    let at_next = c in
-    let at-next-trial = at_next in
-    let start = at-next-trial in
     record {
       leads = λ m ds.
-          candidate_next start.args.g _ _ _ m ds (sym at_next.in-Candidate.is ∙ at-next-trial.next_trial-next.ensures);
+          candidate_next c.args.g _ _ _ m ds (sym c.in-Candidate.is ∙ c.next_trial-next.ensures);
     }
 
 pub returns-in-Exhausted : goal.returns-in-Exhausted
 returns-in-Exhausted c =
-    let at-next-trial = c in
-    let start = at-next-trial in
-    record { leads = λ m ds. candidate_none start.args.g m ds (sym c.in-Exhausted.is ∙ at-next-trial.next_trial-next.ensures) }
+    record { leads = λ m ds. candidate_none c.args.g m ds (sym c.in-Exhausted.is ∙ c.next_trial-next.ensures) }

@@ -8,10 +8,7 @@ returns-then-g-eq0 c = record { leads = λ m ds. last_iteration c.args.g m ds c.
 
 pub returns : goal.returns
 returns c =
-    let at-iterations-left = c in
-    let at-if1 = at-iterations-left in
-    let start = at-if1 in
     record {
-      leads = λ m ds. another_iteration start.args.g at-iterations-left.iterations_left-left.result m ds at-if1.if-g-eq0.false
-          at-iterations-left.iterations_left-left.ensures;
+      leads = λ m ds. another_iteration c.args.g c.iterations_left-left.result m ds c.if-g-eq0.false
+          c.iterations_left-left.ensures;
     }

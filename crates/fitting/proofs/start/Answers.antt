@@ -10,9 +10,7 @@ use Rattle.fitting.proofs.start.Goals as goal
 
 pub returns : goal.returns
 returns c =
-    let at_blank = c in
-    let start = at_blank in
     record {
       leads = λ m ds. c.next_iteration.ensures.leads m ds ∙ ap
-          (λ (p : Point). bind (iterate m 100 p start.args.value first_damping 0) (fitted m ds)) at_blank.blank-g.ensures.point;
+          (λ (p : Point). bind (iterate m 100 p c.args.value first_damping 0) (fitted m ds)) c.blank-g.ensures.point;
     }

@@ -22,13 +22,12 @@ loop-i-init c = (c.shorter-n.ensures, omega arith, λ e. refl)
 
 pub loop-i-preserved : goal.loop-i-preserved
 loop-i-preserved c =
-    let l = c in
-    let a = l.args in (
-      l.loop-i.invariant.0,
+    let a = c.args in (
+      c.loop-i.invariant.0,
       omega arith,
       λ e.
-          let n = neither l.loop-i.found _ e in
-          rw add-one (unset_here a.drops.now a.missing.now l.loop-i.i (omega arith) (omega arith) (l.loop-i.invariant.2 n.0) n.1),
+          let n = neither c.loop-i.found _ e in
+          rw add-one (unset_here a.drops.now a.missing.now c.loop-i.i (omega arith) (omega arith) (c.loop-i.invariant.2 n.0) n.1),
     )
 
 pub returns : goal.returns

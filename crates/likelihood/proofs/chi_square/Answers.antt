@@ -38,14 +38,13 @@ loop-i-init c =
 
 pub loop-i-preserved : goal.loop-i-preserved
 loop-i-preserved c =
-    let l = c in
-    let a = l.args in
-    let v = l.loop-i.invariant in (
+    let a = c.args in
+    let v = c.loop-i.invariant in (
       v.0,
       v.1,
       v.2,
       omega arith,
-      rw (add-one, v.4) (one_more a.ranges.now a.drops.now a.sigmas.now a.predicted.now l.loop-i.i (omega arith) (omega arith)),
+      rw (add-one, v.4) (one_more a.ranges.now a.drops.now a.sigmas.now a.predicted.now c.loop-i.i (omega arith) (omega arith)),
     )
 
 pub returns : goal.returns

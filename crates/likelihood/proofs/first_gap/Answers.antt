@@ -21,17 +21,15 @@ loop-i-init c = (c.shorter-n.ensures, omega arith, refl)
 
 pub returns-then-missing-i : goal.returns-then-missing-i
 returns-then-missing-i c =
-    let l = c in
-    let a = l.args in
-    add-one l.loop-i.i ∙ set_here a.drops.now a.missing.now l.loop-i.i (omega arith) (omega arith) l.loop-i.invariant.2 c.if-missing-i.true
+    let a = c.args in
+    add-one c.loop-i.i ∙ set_here a.drops.now a.missing.now c.loop-i.i (omega arith) (omega arith) c.loop-i.invariant.2 c.if-missing-i.true
 
 pub loop-i-preserved : goal.loop-i-preserved
 loop-i-preserved c =
-    let l = c in
-    let a = l.args in (
-      l.loop-i.invariant.0,
+    let a = c.args in (
+      c.loop-i.invariant.0,
       omega arith,
-      rw add-one (unset_here a.drops.now a.missing.now l.loop-i.i (omega arith) (omega arith) l.loop-i.invariant.2 c.if-missing-i.false),
+      rw add-one (unset_here a.drops.now a.missing.now c.loop-i.i (omega arith) (omega arith) c.loop-i.invariant.2 c.if-missing-i.false),
     )
 
 pub returns : goal.returns

@@ -28,5 +28,4 @@ returns-then-i-j c = earlier c.args.i c.args.j c.if-i-eq0.false c.if-i-j.true
 
 pub returns : goal.returns
 returns c =
-    let c1 = c in
-    later c1.args.i c1.args.j c.if-i-eq0.false c.if-j-eq0.false c.if-i-j.false
+    later c.args.i c.args.j c.if-i-eq0.false c.if-j-eq0.false c.if-i-j.false

@@ -28,14 +28,13 @@ loop-i-init c = (c.shortest-n.ensures, omega arith, refl, refl)
 
 pub loop-i-preserved : goal.loop-i-preserved
 loop-i-preserved c =
-    let l = c in
-    let a = l.args in
-    let v = l.loop-i.invariant in (
+    let a = c.args in
+    let v = c.loop-i.invariant in (
       v.0,
       omega arith,
-      length-set l.loop-i.out l.loop-i.i c.drop_or_0.result ∙ v.2,
+      length-set c.loop-i.out c.loop-i.i c.drop_or_0.result ∙ v.2,
       rw (add-one, v.3, c.drop_or_0.ensures)
-          (one_more a.drops.now a.missing.now a.out.now l.loop-i.i (omega arith) (omega arith) (omega arith)),
+          (one_more a.drops.now a.missing.now a.out.now c.loop-i.i (omega arith) (omega arith) (omega arith)),
     )
 
 pub shape_of-out : goal.shape_of-out

@@ -42,14 +42,13 @@ loop-i-init c = (c.shortest-n.ensures, omega arith, refl, refl)
 
 pub loop-i-preserved : goal.loop-i-preserved
 loop-i-preserved c =
-    let l = c in
-    let a = l.args in
-    let v = l.loop-i.invariant in (
+    let a = c.args in
+    let v = c.loop-i.invariant in (
       v.0,
       omega arith,
-      length-set l.loop-i.out l.loop-i.i c.slope_of.result ∙ v.2,
+      length-set c.loop-i.out c.loop-i.i c.slope_of.result ∙ v.2,
       rw (add-one, c.slope_of.ensures, c.drop_or_0.ensures, v.3)
-          (one_more a.step a.drops.now a.missing.now a.out.now l.loop-i.i (omega arith) (omega arith) (omega arith)),
+          (one_more a.step a.drops.now a.missing.now a.out.now c.loop-i.i (omega arith) (omega arith) (omega arith)),
     )
 
 pub shape_of-out : goal.shape_of-out

@@ -41,16 +41,15 @@ loop-i-init c =
     let w = zip3_within observation_of a.ranges.now a.drops.now a.sigmas.now in
     let e = zip3_shortest observation_of a.ranges.now a.drops.now a.sigmas.now in
     let s = c.shortest-shots.ensures in
-    let x = zip3_within row_of a.predicted.now a.by-mv.now a.by-bc.now in
-    let f = zip3_shortest row_of a.predicted.now a.by-mv.now a.by-bc.now in
+    let x = zip3_within row_of a.predicted.now a.by_mv.now a.by_bc.now in
+    let f = zip3_shortest row_of a.predicted.now a.by_mv.now a.by_bc.now in
     let t = c.shortest-rows.ensures in
     (rw (s, ← e, t, ← f) at c.shorter-n.ensures, omega arith, omega arith, omega arith, omega arith, omega arith, omega arith, refl)
 
 pub loop-i-preserved : goal.loop-i-preserved
 loop-i-preserved c =
-    let l = c in
-    let a = l.args in
-    let v = l.loop-i.invariant in (
+    let a = c.args in
+    let v = c.loop-i.invariant in (
       v.0,
       v.1,
       v.2,
@@ -59,7 +58,7 @@ loop-i-preserved c =
       v.5,
       omega arith,
       rw (c.accumulate-sums.ensures, add-one, v.7)
-          (one_more a.p a.ranges.now a.drops.now a.sigmas.now a.predicted.now a.by-mv.now a.by-bc.now l.loop-i.i
+          (one_more a.p a.ranges.now a.drops.now a.sigmas.now a.predicted.now a.by_mv.now a.by_bc.now c.loop-i.i
           (omega arith) (omega arith)),
     )
 
@@ -70,4 +69,4 @@ returns c =
     let v = c.loop-i.invariant in
     v.7
     ∙ fold_all (with_row a.p) no_sums (observations_of a.ranges.now a.drops.now a.sigmas.now)
-    (zip_with3 row_of a.predicted.now a.by-mv.now a.by-bc.now) c.loop-i.i (omega arith)
+    (zip_with3 row_of a.predicted.now a.by_mv.now a.by_bc.now) c.loop-i.i (omega arith)

@@ -16,13 +16,9 @@ returns-in_default c = λ es. simp (eq-eqb _ _ c.if-f-ne3.false, c.in_default.is
 pub returns-in_default-sigma_in : goal.returns-in_default-sigma_in
 unfolding distance_in distance_of
 returns-in_default-sigma_in c =
-    let c1 = c in
-    let c2 = c1 in
-    λ es. simp (eq-eqb _ _ c2.if-f-ne3.false, c1.in-Double.is, ← c.sigma_in.ensures, c.in_default-sigma_in.is)
+    λ es. simp (eq-eqb _ _ c.if-f-ne3.false, c.in-Double.is, ← c.sigma_in.ensures, c.in_default-sigma_in.is)
 
 pub returns : goal.returns
 unfolding distance_in distance_of
 returns c =
-    let c1 = c in
-    let c2 = c1 in
-    λ es. simp (eq-eqb _ _ c2.if-f-ne3.false, c1.in-Double.is, ← c1.sigma_in.ensures, c.in-Read.is)
+    λ es. simp (eq-eqb _ _ c.if-f-ne3.false, c.in-Double.is, ← c.sigma_in.ensures, c.in-Read.is)

@@ -16,22 +16,14 @@ returns-in_default c = λ es. simp (eq-eqb _ _ c.if-f-ne4.false, c.in_default.is
 pub returns-in_default-p : goal.returns-in_default-p
 unfolding exchange_in exchange_of
 returns-in_default-p c =
-    let c1 = c in
-    let c2 = c1 in
-    λ es. simp (eq-eqb _ _ c2.if-f-ne4.false, c1.in-Count.is, c.in_default-p.is)
+    λ es. simp (eq-eqb _ _ c.if-f-ne4.false, c.in-Count.is, c.in_default-p.is)
 
 pub returns-in_default-sigma_in : goal.returns-in_default-sigma_in
 unfolding exchange_in exchange_of
 returns-in_default-sigma_in c =
-    let c1 = c in
-    let c2 = c1 in
-    let c3 = c2 in
-    λ es. simp (eq-eqb _ _ c3.if-f-ne4.false, c2.in-Count.is, c1.in-Double.is, ← c.sigma_in.ensures, c.in_default-sigma_in.is)
+    λ es. simp (eq-eqb _ _ c.if-f-ne4.false, c.in-Count.is, c.in-Double.is, ← c.sigma_in.ensures, c.in_default-sigma_in.is)
 
 pub returns : goal.returns
 unfolding exchange_in exchange_of
 returns c =
-    let c1 = c in
-    let c2 = c1 in
-    let c3 = c2 in
-    λ es. simp (eq-eqb _ _ c3.if-f-ne4.false, c2.in-Count.is, c1.in-Double.is, ← c1.sigma_in.ensures, c.in-Read.is)
+    λ es. simp (eq-eqb _ _ c.if-f-ne4.false, c.in-Count.is, c.in-Double.is, ← c.sigma_in.ensures, c.in-Read.is)

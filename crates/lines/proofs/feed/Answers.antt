@@ -15,20 +15,16 @@ returns-then-word-gt20 c = let a = c.args in c.spoiled.ensures ∙ feed_long a.l
 
 pub returns-then-f-eq0 : goal.returns-then-f-eq0
 returns-then-f-eq0 c =
-    let c1 = c in
-    let c2 = c1 in
-    let a = c2.args in
-    let w = c1.read_word-w in
-    feed_first a.l a.word.now c1.with_field-fields.result c2.if-word-gt20.false c.if-f-eq0.true
-    (c1.with_field-fields.ensures ∙ ap (with_field_of a.l.fields.n a.l.fields) w.ensures)
+    let a = c.args in
+    let w = c.read_word-w in
+    feed_first a.l a.word.now c.with_field-fields.result c.if-word-gt20.false c.if-f-eq0.true
+    (c.with_field-fields.ensures ∙ ap (with_field_of a.l.fields.n a.l.fields) w.ensures)
 
 pub returns : goal.returns
 returns c =
-    let c1 = c in
-    let c2 = c1 in
-    let a = c2.args in
-    let w = c1.read_word-w in
-    feed_next a.l a.word.now c1.with_field-fields.result c.with_entry-reply.result c2.if-word-gt20.false c.if-f-eq0.false
-    (c1.with_field-fields.ensures ∙ ap (with_field_of a.l.fields.n a.l.fields) w.ensures)
+    let a = c.args in
+    let w = c.read_word-w in
+    feed_next a.l a.word.now c.with_field-fields.result c.with_entry-reply.result c.if-word-gt20.false c.if-f-eq0.false
+    (c.with_field-fields.ensures ∙ ap (with_field_of a.l.fields.n a.l.fields) w.ensures)
     (c.with_entry-reply.ensures
     ∙ ap (λ (x : Reading). with_entry_of a.l.reply (entry_from (says_double x.double) (eqb x.word (place "missing")))) w.ensures)

@@ -20,11 +20,10 @@ returns-then-k-eq-OPEN c = λ es. rw c.if-k-eq-OPEN.true (c.open_form.ensures es
 
 pub returns : goal.returns
 returns c =
-    let c1 = c in
     λ es. rw (
-      ne_eqb _ _ c1.if-k-eq-ENTERED.false,
-      ne_eqb _ _ c1.if-k-eq-SHOT.false,
-      ne_eqb _ _ c1.if-k-eq-PRIOR.false,
+      ne_eqb _ _ c.if-k-eq-ENTERED.false,
+      ne_eqb _ _ c.if-k-eq-SHOT.false,
+      ne_eqb _ _ c.if-k-eq-PRIOR.false,
       ne_eqb _ _ c.if-k-eq-DISTANCE.false,
       ne_eqb _ _ c.if-k-eq-OPEN.false,
     ) (c.session_form.ensures es)

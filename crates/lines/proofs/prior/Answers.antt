@@ -16,13 +16,9 @@ returns-in_default c = λ es. simp (eq-eqb _ _ c.if-f-ne4.false, c.in_default.is
 pub returns-in_default-q : goal.returns-in_default-q
 unfolding prior_in prior_of
 returns-in_default-q c =
-    let c1 = c in
-    let c2 = c1 in
-    λ es. simp (eq-eqb _ _ c2.if-f-ne4.false, c1.in-Double.is, c.in_default-q.is)
+    λ es. simp (eq-eqb _ _ c.if-f-ne4.false, c.in-Double.is, c.in_default-q.is)
 
 pub returns : goal.returns
 unfolding prior_in prior_of
 returns c =
-    let c1 = c in
-    let c2 = c1 in
-    λ es. simp (eq-eqb _ _ c2.if-f-ne4.false, c1.in-Double.is, c.in-Double-q.is, ← c.prior_of.ensures es)
+    λ es. simp (eq-eqb _ _ c.if-f-ne4.false, c.in-Double.is, c.in-Double-q.is, ← c.prior_of.ensures es)

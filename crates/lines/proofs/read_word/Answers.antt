@@ -5,6 +5,5 @@ use Rattle.lines.proofs.read_word.Goals as goal
 
 pub returns : goal.returns
 returns c =
-    let c1 = c in
-    read_word c1.args.s.now c.find.result c.read_double.result c.read_count.result
+    read_word c.args.s.now c.find.result c.read_double.result c.read_count.result
     c.find.ensures c.read_double.ensures c.read_count.ensures

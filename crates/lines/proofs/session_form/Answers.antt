@@ -26,12 +26,11 @@ returns-then-k-eq-PAGE c = λ es. rw c.if-k-eq-PAGE.true (c.page.ensures es)
 
 pub returns : goal.returns
 returns c =
-    let c1 = c in
     λ es. rw (
-      ne_eqb _ _ c1.if-k-eq-DROPS.false,
-      ne_eqb _ _ c1.if-k-eq-REFUSED.false,
-      ne_eqb _ _ c1.if-k-eq-PUT_IN.false,
-      ne_eqb _ _ c1.if-k-eq-TAKE_OUT.false,
+      ne_eqb _ _ c.if-k-eq-DROPS.false,
+      ne_eqb _ _ c.if-k-eq-REFUSED.false,
+      ne_eqb _ _ c.if-k-eq-PUT_IN.false,
+      ne_eqb _ _ c.if-k-eq-TAKE_OUT.false,
       ne_eqb _ _ c.if-k-eq-EXCHANGE.false,
       ne_eqb _ _ c.if-k-eq-ASKED.false,
       ne_eqb _ _ c.if-k-eq-PAGE.false,

@@ -16,22 +16,14 @@ returns-in_default c = λ es. simp (eq-eqb _ _ c.if-f-ne4.false, c.in_default.is
 pub returns-in_default-q : goal.returns-in_default-q
 unfolding shot_in shot_of
 returns-in_default-q c =
-    let c1 = c in
-    let c2 = c1 in
-    λ es. simp (eq-eqb _ _ c2.if-f-ne4.false, c1.in-Double.is, c.in_default-q.is)
+    λ es. simp (eq-eqb _ _ c.if-f-ne4.false, c.in-Double.is, c.in_default-q.is)
 
 pub returns-in_default-s : goal.returns-in_default-s
 unfolding shot_in shot_of
 returns-in_default-s c =
-    let c1 = c in
-    let c2 = c1 in
-    let c3 = c2 in
-    λ es. simp (eq-eqb _ _ c3.if-f-ne4.false, c2.in-Double.is, c1.in-Double-q.is, c.in_default-s.is)
+    λ es. simp (eq-eqb _ _ c.if-f-ne4.false, c.in-Double.is, c.in-Double-q.is, c.in_default-s.is)
 
 pub returns : goal.returns
 unfolding shot_in shot_of
 returns c =
-    let c1 = c in
-    let c2 = c1 in
-    let c3 = c2 in
-    λ es. simp (eq-eqb _ _ c3.if-f-ne4.false, c2.in-Double.is, c1.in-Double-q.is, c.in-Double-s.is)
+    λ es. simp (eq-eqb _ _ c.if-f-ne4.false, c.in-Double.is, c.in-Double-q.is, c.in-Double-s.is)

@@ -9,17 +9,13 @@ returns-then-not-first c = let a = c.args in c.take_closed.ensures ∙ open_not 
 
 pub returns-then-word-eq0 : goal.returns-then-word-eq0
 returns-then-word-eq0 c =
-    let c1 = c in
-    let a = c1.args in c.spoiled.ensures ∙ open_none a.l a.word.now a.last a.first c.if-not-first.false-raw c.if-word-eq0.true
+    let a = c.args in c.spoiled.ensures ∙ open_none a.l a.word.now a.last a.first c.if-not-first.false-raw c.if-word-eq0.true
 
 pub returns-then-word-ne40 : goal.returns-then-word-ne40
 returns-then-word-ne40 c =
-    let c1 = c in
-    let a = c1.args in c.spoiled-then-word-ne40.ensures ∙ open_other a.l a.word.now a.last a.first c1.if-not-first.false-raw c.if-word-ne40.true
+    let a = c.args in c.spoiled-then-word-ne40.ensures ∙ open_other a.l a.word.now a.last a.first c.if-not-first.false-raw c.if-word-ne40.true
 
 pub returns : goal.returns
 returns c =
-    let c1 = c in
-    let c2 = c1 in
-    let a = c2.args in
-    c.take_closed-2.ensures ∙ open_taken a.l a.word.now a.last a.first c1.if-not-first.false-raw c1.if-word-eq0.false c.if-word-ne40.false
+    let a = c.args in
+    c.take_closed-2.ensures ∙ open_taken a.l a.word.now a.last a.first c.if-not-first.false-raw c.if-word-eq0.false c.if-word-ne40.false

@@ -13,14 +13,11 @@ returns-then-not-last c = let a = c.args in c.feed.ensures ∙ close_not a.l a.w
 
 pub returns-then-n-eq0 : goal.returns-then-n-eq0
 returns-then-n-eq0 c =
-    let c1 = c in
-    let a = c1.args in c.spoiled.ensures ∙ close_none a.l a.word.now a.last c.if-not-last.false-raw c.if-n-eq0.true
+    let a = c.args in c.spoiled.ensures ∙ close_none a.l a.word.now a.last c.if-not-last.false-raw c.if-n-eq0.true
 
 pub returns-then-word-k-ne41 : goal.returns-then-word-k-ne41
 returns-then-word-k-ne41 c =
-    let c1 = c in
-    let c2 = c1 in
-    let a = c2.args in c.spoiled-then-word-k-ne41.ensures ∙ close_other a.l a.word.now a.last c1.if-not-last.false-raw c1.if-n-eq0.false c.if-word-k-ne41.true
+    let a = c.args in c.spoiled-then-word-k-ne41.ensures ∙ close_other a.l a.word.now a.last c.if-not-last.false-raw c.if-n-eq0.false c.if-word-k-ne41.true
 
 pub slice_bounds-feed-end : goal.slice_bounds-feed-end
 slice_bounds-feed-end c =
@@ -28,6 +25,4 @@ slice_bounds-feed-end c =
 
 pub returns : goal.returns
 returns c =
-    let c1 = c in
-    let c2 = c1 in
-    let a = c2.args in c.feed-2.ensures ∙ close_taken a.l a.word.now a.last c1.if-not-last.false-raw c1.if-n-eq0.false c.if-word-k-ne41.false
+    let a = c.args in c.feed-2.ensures ∙ close_taken a.l a.word.now a.last c.if-not-last.false-raw c.if-n-eq0.false c.if-word-k-ne41.false

@@ -10,19 +10,12 @@ returns-then-f-eq1 c = let a = c.args in field_1 a.f.n a.f a.w c.if-f-eq1.true
 
 pub returns-then-f-eq2 : goal.returns-then-f-eq2
 returns-then-f-eq2 c =
-    let c1 = c in
-    let c2 = c1 in
-    let a = c2.args in field_2 a.f.n a.f a.w c1.if-f-eq2.true
+    let a = c.args in field_2 a.f.n a.f a.w c.if-f-eq2.true
 
 pub returns-then-f-eq3 : goal.returns-then-f-eq3
 returns-then-f-eq3 c =
-    let c1 = c in
-    let c2 = c1 in
-    let a = c2.args in field_3 a.f.n a.f a.w c1.if-f-eq3.true
+    let a = c.args in field_3 a.f.n a.f a.w c.if-f-eq3.true
 
 pub returns : goal.returns
 returns c =
-    let c1 = c in
-    let c2 = c1 in
-    let c3 = c2 in
-    let a = c3.args in field_4 a.f.n a.f a.w c2.if-f-eq0.false c2.if-f-eq1.false c1.if-f-eq2.false c1.if-f-eq3.false
+    let a = c.args in field_4 a.f.n a.f a.w c.if-f-eq0.false c.if-f-eq1.false c.if-f-eq2.false c.if-f-eq3.false

@@ -6,10 +6,7 @@ use Rattle.lists.proofs.changed_rows.Goals as goal
 
 pub returns : goal.returns
 returns c =
-    let at-changed-places2 = c in
-    let at-changed-places = at-changed-places2 in
-    let start = at-changed-places in
     λ few p f.
-    let a = start.args in
-    rows_changed a.rows a.n (edit_of a.change) a.row _ _ _ (at-changed-places.changed_places-predicted.ensures few p f)
-    (at-changed-places2.changed_places-by_mv.ensures few p f) (c.changed_places-by_bc.ensures few p f)
+    let a = c.args in
+    rows_changed a.rows a.n (edit_of a.change) a.row _ _ _ (c.changed_places-predicted.ensures few p f)
+    (c.changed_places-by_mv.ensures few p f) (c.changed_places-by_bc.ensures few p f)

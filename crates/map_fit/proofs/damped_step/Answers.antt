@@ -6,17 +6,15 @@ use Rattle.map_fit.proofs.damped_step.Goals as goal
 pub returns-then-is_unfit : goal.returns-then-is_unfit
 unfolding step_of
 returns-then-is_unfit c =
-    let c1 = c in
-    simp (← c1.damped-a00.ensures, ← c1.damped-a11.ensures, ← c.determinant-determinant.ensures, ← c.is_unfit.ensures, c.if-is_unfit.true)
+    simp (← c.damped-a00.ensures, ← c.damped-a11.ensures, ← c.determinant-determinant.ensures, ← c.is_unfit.ensures, c.if-is_unfit.true)
 
 pub returns : goal.returns
 unfolding step_of
 returns c =
-    let c1 = c in
     simp (
-      ← c1.damped-a00.ensures,
-      ← c1.damped-a11.ensures,
-      ← c1.determinant-determinant.ensures,
+      ← c.damped-a00.ensures,
+      ← c.damped-a11.ensures,
+      ← c.determinant-determinant.ensures,
       ← c.is_unfit.ensures,
       c.if-is_unfit.false,
       ← c.stepped-q.ensures,

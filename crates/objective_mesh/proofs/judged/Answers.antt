@@ -6,10 +6,8 @@ use Rattle.objective_mesh.proofs.judged.Goals as goal
 
 pub returns-then-objective_improvement_is_material : goal.returns-then-objective_improvement_is_material
 returns-then-objective_improvement_is_material c =
-    let c1 = c in
-    judged_gained (pass_of c1.args.s) c.objective_improvement_is_material.ensures c.if-objective_improvement_is_material.true c.begin.ensures
+    judged_gained (pass_of c.args.s) c.objective_improvement_is_material.ensures c.if-objective_improvement_is_material.true c.begin.ensures
 
 pub returns : goal.returns
 returns c =
-    let c1 = c in
-    judged_ungained (pass_of c1.args.s) c.objective_improvement_is_material.ensures c.if-objective_improvement_is_material.false c.ungained.ensures
+    judged_ungained (pass_of c.args.s) c.objective_improvement_is_material.ensures c.if-objective_improvement_is_material.false c.ungained.ensures

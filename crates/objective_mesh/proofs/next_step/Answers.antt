@@ -6,12 +6,8 @@ use Rattle.objective_mesh.proofs.next_step.Goals as goal
 
 pub returns-in-Moved : goal.returns-in-Moved
 returns-in-Moved c =
-    let c1 = c in
-    let c2 = c1 in
-    step_moved (pass_of c2.args.s) c1.look-found.ensures c1.in-Moved.is
+    step_moved (pass_of c.args.s) c.look-found.ensures c.in-Moved.is
 
 pub returns-in-NoneMoved : goal.returns-in-NoneMoved
 returns-in-NoneMoved c =
-    let c1 = c in
-    let c2 = c1 in
-    step_none (pass_of c2.args.s) c1.look-found.ensures c.in-NoneMoved.is c.judged.ensures
+    step_none (pass_of c.args.s) c.look-found.ensures c.in-NoneMoved.is c.judged.ensures

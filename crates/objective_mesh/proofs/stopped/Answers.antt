@@ -10,12 +10,8 @@ returns-then-gained c = stopped_gained (pass_of c.args.s) c.objective_improvemen
 
 pub returns-then-s-eq0 : goal.returns-then-s-eq0
 returns-then-s-eq0 c =
-    let c1 = c in
-    let c2 = c1 in
-    c.searched.ensures ∙ stopped_last (pass_of c2.args.s) c1.objective_improvement_is_material-gained.ensures c1.if-gained.false c.if-s-eq0.true
+    c.searched.ensures ∙ stopped_last (pass_of c.args.s) c.objective_improvement_is_material-gained.ensures c.if-gained.false c.if-s-eq0.true
 
 pub returns : goal.returns
 returns c =
-    let c1 = c in
-    let c2 = c1 in
-    stopped_cut (pass_of c2.args.s) c1.objective_improvement_is_material-gained.ensures c.if-gained.false c.if-s-eq0.false
+    stopped_cut (pass_of c.args.s) c.objective_improvement_is_material-gained.ensures c.if-gained.false c.if-s-eq0.false

@@ -6,18 +6,14 @@ use Rattle.opening.proofs.check.Goals as goal
 
 pub returns-in-Faulty : goal.returns-in-Faulty
 returns-in-Faulty c =
-    let c1 = c in
-    let c2 = c1 in
-    let a = c2.args in
+    let a = c.args in
     check_measured_faulty
     (opening_of a.entered a.ranges.now a.drops.now a.sigmas.now a.priors a.distances.now a.future.now a.given.now)
-    c1.check_measured.result c1.check_measured.ensures _ _ c.in-Faulty.is
+    c.check_measured.result c.check_measured.ensures _ _ c.in-Faulty.is
 
 pub returns-in-Sound : goal.returns-in-Sound
 returns-in-Sound c =
-    let c1 = c in
-    let c2 = c1 in
-    let a = c2.args in
+    let a = c.args in
     check_measured_sound
     (opening_of a.entered a.ranges.now a.drops.now a.sigmas.now a.priors a.distances.now a.future.now a.given.now)
-    c1.check_measured.result c1.check_measured.ensures c.check_requested.result c.in-Sound.is c.check_requested.ensures
+    c.check_measured.result c.check_measured.ensures c.check_requested.result c.in-Sound.is c.check_requested.ensures

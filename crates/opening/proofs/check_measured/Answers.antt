@@ -53,38 +53,33 @@ returns-then-n-gt64 c =
 
 pub returns-then-i-ne0 : goal.returns-then-i-ne0
 returns-then-i-ne0 c =
-    let c1 = c in
-    let c2 = c1 in
     simp (
       measured_by_lem,
-      ← c2.is_within.ensures,
-      not-false c2.is_within.result c2.if-not-is_within.false-raw,
-      ← c2.is_within-2.ensures,
-      not-false c2.is_within-2.result c1.if-not-is_within-2.false-raw,
+      ← c.is_within.ensures,
+      not-false c.is_within.result c.if-not-is_within.false-raw,
+      ← c.is_within-2.ensures,
+      not-false c.is_within-2.result c.if-not-is_within-2.false-raw,
       zip3_shortest observation_of,
-      ← c1.shortest-n.ensures,
-      le-leb 2 c1.shortest-n.result c1.if-n-lt2.false,
-      le-leb c1.shortest-n.result 64 c.if-n-gt64.false,
+      ← c.shortest-n.ensures,
+      le-leb 2 c.shortest-n.result c.if-n-lt2.false,
+      le-leb c.shortest-n.result 64 c.if-n-gt64.false,
       ← c.first_faulty_observation-i.ensures,
       unless_fault c.first_faulty_observation-i.result 4 c.if-i-ne0.true,
     )
 
 pub returns-then-not-is_sound_prior : goal.returns-then-not-is_sound_prior
 returns-then-not-is_sound_prior c =
-    let c1 = c in
-    let c2 = c1 in
-    let c3 = c2 in
     simp (
       measured_by_lem,
-      ← c3.is_within.ensures,
-      not-false c3.is_within.result c3.if-not-is_within.false-raw,
-      ← c2.is_within-2.ensures,
-      not-false c2.is_within-2.result c2.if-not-is_within-2.false-raw,
+      ← c.is_within.ensures,
+      not-false c.is_within.result c.if-not-is_within.false-raw,
+      ← c.is_within-2.ensures,
+      not-false c.is_within-2.result c.if-not-is_within-2.false-raw,
       zip3_shortest observation_of,
-      ← c2.shortest-n.ensures,
-      le-leb 2 c2.shortest-n.result c1.if-n-lt2.false,
-      le-leb c2.shortest-n.result 64 c1.if-n-gt64.false,
-      ← c1.first_faulty_observation-i.ensures,
+      ← c.shortest-n.ensures,
+      le-leb 2 c.shortest-n.result c.if-n-lt2.false,
+      le-leb c.shortest-n.result 64 c.if-n-gt64.false,
+      ← c.first_faulty_observation-i.ensures,
       c.if-i-ne0.false,
       ← c.is_sound_prior.ensures,
       not-true c.is_sound_prior.result c.if-not-is_sound_prior.true-raw,
@@ -92,48 +87,40 @@ returns-then-not-is_sound_prior c =
 
 pub returns-then-not-is_sound_prior-2 : goal.returns-then-not-is_sound_prior-2
 returns-then-not-is_sound_prior-2 c =
-    let c1 = c in
-    let c2 = c1 in
-    let c3 = c2 in
-    let c4 = c3 in
     simp (
       measured_by_lem,
-      ← c4.is_within.ensures,
-      not-false c4.is_within.result c3.if-not-is_within.false-raw,
-      ← c3.is_within-2.ensures,
-      not-false c3.is_within-2.result c3.if-not-is_within-2.false-raw,
+      ← c.is_within.ensures,
+      not-false c.is_within.result c.if-not-is_within.false-raw,
+      ← c.is_within-2.ensures,
+      not-false c.is_within-2.result c.if-not-is_within-2.false-raw,
       zip3_shortest observation_of,
-      ← c2.shortest-n.ensures,
-      le-leb 2 c2.shortest-n.result c2.if-n-lt2.false,
-      le-leb c2.shortest-n.result 64 c2.if-n-gt64.false,
-      ← c1.first_faulty_observation-i.ensures,
-      c1.if-i-ne0.false,
-      ← c1.is_sound_prior.ensures,
-      not-false c1.is_sound_prior.result c.if-not-is_sound_prior.false-raw,
+      ← c.shortest-n.ensures,
+      le-leb 2 c.shortest-n.result c.if-n-lt2.false,
+      le-leb c.shortest-n.result 64 c.if-n-gt64.false,
+      ← c.first_faulty_observation-i.ensures,
+      c.if-i-ne0.false,
+      ← c.is_sound_prior.ensures,
+      not-false c.is_sound_prior.result c.if-not-is_sound_prior.false-raw,
       ← c.is_sound_prior-2.ensures,
       not-true c.is_sound_prior-2.result c.if-not-is_sound_prior-2.true-raw,
     )
 
 pub returns : goal.returns
 returns c =
-    let c1 = c in
-    let c2 = c1 in
-    let c3 = c2 in
-    let c4 = c3 in
     simp (
       measured_by_lem,
-      ← c4.is_within.ensures,
-      not-false c4.is_within.result c3.if-not-is_within.false-raw,
-      ← c3.is_within-2.ensures,
-      not-false c3.is_within-2.result c3.if-not-is_within-2.false-raw,
+      ← c.is_within.ensures,
+      not-false c.is_within.result c.if-not-is_within.false-raw,
+      ← c.is_within-2.ensures,
+      not-false c.is_within-2.result c.if-not-is_within-2.false-raw,
       zip3_shortest observation_of,
-      ← c2.shortest-n.ensures,
-      le-leb 2 c2.shortest-n.result c2.if-n-lt2.false,
-      le-leb c2.shortest-n.result 64 c2.if-n-gt64.false,
-      ← c1.first_faulty_observation-i.ensures,
-      c1.if-i-ne0.false,
-      ← c1.is_sound_prior.ensures,
-      not-false c1.is_sound_prior.result c.if-not-is_sound_prior.false-raw,
+      ← c.shortest-n.ensures,
+      le-leb 2 c.shortest-n.result c.if-n-lt2.false,
+      le-leb c.shortest-n.result 64 c.if-n-gt64.false,
+      ← c.first_faulty_observation-i.ensures,
+      c.if-i-ne0.false,
+      ← c.is_sound_prior.ensures,
+      not-false c.is_sound_prior.result c.if-not-is_sound_prior.false-raw,
       ← c.is_sound_prior-2.ensures,
       not-false c.is_sound_prior-2.result c.if-not-is_sound_prior-2.false-raw,
     )

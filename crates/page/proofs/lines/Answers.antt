@@ -14,29 +14,22 @@ use Rattle.page.proofs.lines.Goals as goal
 
 pub overflow_add-result : goal.overflow_add-result
 overflow_add-result c =
-    let c1 = c in
-    let c2 = c1 in
-    let s = c2.args.s in
+    let s = c.args.s in
     let k = counts_within _ (report_in (state s)) (subst (λ (x : Shown). Shows x (report_in (state s))) c.in-Given.is
-    c1.report.ensures.is) (shown_bounded s.run s.edit) in
+    c.report.ensures.is) (shown_bounded s.run s.edit) in
     omega (arith, k.0)
 
 pub overflow_add-result-in-Given : goal.overflow_add-result-in-Given
 overflow_add-result-in-Given c =
-    let c1 = c in
-    let c2 = c1 in
-    let s = c2.args.s in
+    let s = c.args.s in
     let k = counts_within _ (report_in (state s)) (subst (λ (x : Shown). Shows x (report_in (state s))) c.in-Given.is
-    c1.report.ensures.is) (shown_bounded s.run s.edit) in
+    c.report.ensures.is) (shown_bounded s.run s.edit) in
     omega (arith, k.0, k.1)
 
 pub overflow_add-result-in-Given-2 : goal.overflow_add-result-in-Given-2
 overflow_add-result-in-Given-2 c =
-    let c1 = c in
-    let c2 = c1 in
-    let c3 = c2 in
-    let s = c3.args.s in
-    let k = counts_within _ (report_in (state s)) (subst (λ (x : Shown). Shows x (report_in (state s))) c1.in-Given.is c2.report.ensures.is)
+    let s = c.args.s in
+    let k = counts_within _ (report_in (state s)) (subst (λ (x : Shown). Shows x (report_in (state s))) c.in-Given.is c.report.ensures.is)
     (shown_bounded s.run s.edit) in
     omega (arith, k.0, k.1, k.2, c.warnings.ensures)
 
@@ -48,13 +41,10 @@ returns-in-Absent c =
 
 pub returns-in-Given : goal.returns-in-Given
 returns-in-Given c =
-    let c1 = c in
-    let c2 = c1 in
-    let c3 = c2 in
-    let s = c3.args.s in
+    let s = c.args.s in
     omega (
       arith,
-      lines_are _ (report_in (state s)) (subst (λ (x : Shown). Shows x (report_in (state s))) c1.in-Given.is
-          c2.report.ensures.is),
+      lines_are _ (report_in (state s)) (subst (λ (x : Shown). Shows x (report_in (state s))) c.in-Given.is
+          c.report.ensures.is),
       c.warnings.ensures,
     )

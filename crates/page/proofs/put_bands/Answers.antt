@@ -23,20 +23,17 @@ loop-i-init c =
 
 pub shape_of-out-in_default : goal.shape_of-out-in_default
 shape_of-out-in_default c =
-    let c1 = c in
-    same_room (then c1.put_bytes-next.ensures c.loop-i.invariant.1)
+    same_room (then c.put_bytes-next.ensures c.loop-i.invariant.1)
 
 pub returns-in_default : goal.returns-in_default
 returns-in_default c =
-    let c1 = c in
-    let c2 = c1 in
-    let a = c2.args in
+    let a = c.args in
     let l = c.loop-i in
     let s = a.s in
     let e =
     sym (place_list (λ p. p.bands) l.i (report_in (state s))) ∙ sym c.predictive_band-found.ensures.is ∙ ap band_at_says
     c.in_default.is in
-    as_text (then c1.put_bytes-next.ensures l.invariant.1)
+    as_text (then c.put_bytes-next.ensures l.invariant.1)
     (ap (λ m. joined_lines (map band_line m)) (all_taken (bands_in s) l.i a.n e (omega arith)))
 
 pub overflow_add-i : goal.overflow_add-i

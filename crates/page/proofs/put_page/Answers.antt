@@ -15,30 +15,21 @@ shape_of-out-in-Absent c = same_room c.put_bytes.ensures
 
 pub returns-in-Absent : goal.returns-in-Absent
 returns-in-Absent c =
-    let c1 = c in
-    let c2 = c1 in
-    let c3 = c2 in
-    let s = c3.args.s in
+    let s = c.args.s in
     as_text c.put_bytes.ensures
     (sym (ap page_in (none_stands (report_in (state s))
-    (subst (λ (x : Shown). Shows x (report_in (state s))) c1.in-Absent.is c2.report.ensures.is))))
+    (subst (λ (x : Shown). Shows x (report_in (state s))) c.in-Absent.is c.report.ensures.is))))
 
 pub shape_of-out-in-Given : goal.shape_of-out-in-Given
 shape_of-out-in-Given c =
-    let c1 = c in
-    let c2 = c1 in
-    let c3 = c2 in
-    let s = c3.args.s in
+    let s = c.args.s in
     same_room (one_stands _ (report_in (state s))
-    (subst (λ (x : Shown). Shows x (report_in (state s))) c1.in-Given.is c2.report.ensures.is)
+    (subst (λ (x : Shown). Shows x (report_in (state s))) c.in-Given.is c.report.ensures.is)
     c.put_given.ensures)
 
 pub returns-in-Given : goal.returns-in-Given
 returns-in-Given c =
-    let c1 = c in
-    let c2 = c1 in
-    let c3 = c2 in
-    let s = c3.args.s in
+    let s = c.args.s in
     one_stands _ (report_in (state s))
-    (subst (λ (x : Shown). Shows x (report_in (state s))) c1.in-Given.is c2.report.ensures.is)
+    (subst (λ (x : Shown). Shows x (report_in (state s))) c.in-Given.is c.report.ensures.is)
     c.put_given.ensures

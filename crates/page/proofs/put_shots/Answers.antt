@@ -24,20 +24,17 @@ loop-i-init c =
 
 pub shape_of-out-in_default : goal.shape_of-out-in_default
 shape_of-out-in_default c =
-    let c1 = c in
-    same_room (then c1.put_bytes-next.ensures c.loop-i.invariant.1)
+    same_room (then c.put_bytes-next.ensures c.loop-i.invariant.1)
 
 pub returns-in_default : goal.returns-in_default
 returns-in_default c =
-    let c1 = c in
-    let c2 = c1 in
-    let a = c2.args in
+    let a = c.args in
     let l = c.loop-i in
     let s = a.s in
     let e =
     sym (place_list (λ p. p.observations) l.i (report_in (state s))) ∙ sym c.observation_result-found.ensures.is ∙ ap result_says
     c.in_default.is in
-    as_text (then c1.put_bytes-next.ensures l.invariant.1)
+    as_text (then c.put_bytes-next.ensures l.invariant.1)
     (ap (λ m. joined_lines (map shot_line m)) (all_taken (results_in false s) l.i a.n e (omega arith)))
 
 pub overflow_add-i : goal.overflow_add-i
@@ -48,16 +45,12 @@ loop-i-smaller c = omega arith
 
 pub loop-i-preserved : goal.loop-i-preserved
 loop-i-preserved c =
-    let c1 = c in
-    let c2 = c1 in
-    let c3 = c2 in
-    let c4 = c3 in
-    let a = c4.args in
-    let l = c3.loop-i in
+    let a = c.args in
+    let l = c.loop-i in
     let s = a.s in
     let e =
-    sym (place_list (λ p. p.observations) l.i (report_in (state s))) ∙ sym c2.observation_result-found.ensures.is
-    ∙ ap result_says c1.in-Given.is in
+    sym (place_list (λ p. p.observations) l.i (report_in (state s))) ∙ sym c.observation_result-found.ensures.is
+    ∙ ap result_says c.in-Given.is in
     (omega arith, as_text (then l.invariant.1 c.put_shot-next.ensures) (next_line_lem shot_line (results_in false s) l.i _ e))
 
 pub shape_of-out : goal.shape_of-out
@@ -65,8 +58,7 @@ shape_of-out c = same_room (then c.put_bytes-next.ensures c.loop-i.invariant.1)
 
 pub returns : goal.returns
 returns c =
-    let c1 = c in
-    let a = c1.args in
+    let a = c.args in
     let l = c.loop-i in
     let s = a.s in
     let k : l.i ≡ a.n = omega arith in

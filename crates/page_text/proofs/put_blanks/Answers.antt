@@ -13,5 +13,4 @@ slice_bounds-put_bytes-end c = sym (length-take-le c.args.n (replicate 14 32) c.
 
 pub returns : goal.returns
 returns c =
-    let c1 = c in
-    as_text c.put_bytes.ensures (first_blanks c1.args.n 14 c1.requires)
+    as_text c.put_bytes.ensures (first_blanks c.args.n 14 c.requires)

@@ -13,6 +13,4 @@ shape_of-out c = same_room c.put_row.ensures
 pub returns : goal.returns
 unfolding coefficient_line
 returns c =
-    let c1 = c in
-    let c2 = c1 in
-    as_text c.put_row.ensures (by_ends _ _ (c1.ends_of-e.ensures ∙ ap ends_of c2.coefficient_interval.ensures))
+    as_text c.put_row.ensures (by_ends _ _ (c.ends_of-e.ensures ∙ ap ends_of c.coefficient_interval.ensures))

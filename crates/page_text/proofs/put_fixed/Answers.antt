@@ -18,20 +18,11 @@ aligned minus q r len e f =
 
 pub shape_of-out : goal.shape_of-out
 shape_of-out c =
-    let c1 = c in
-    let c2 = c1 in
-    let c3 = c2 in
-    let c4 = c3 in
-    same_room (then c4.put_blanks-at.ensures (then c3.put_sign-at.ensures (then c2.put_count-at.ensures (then c1.put_byte-at.ensures
+    same_room (then c.put_blanks-at.ensures (then c.put_sign-at.ensures (then c.put_count-at.ensures (then c.put_byte-at.ensures
     c.put_three.ensures))))
 
 pub returns : goal.returns
 returns c =
-    let c1 = c in
-    let c2 = c1 in
-    let c3 = c2 in
-    let c4 = c3 in
-    let start = c4 in
-    as_text (then c4.put_blanks-at.ensures (then c3.put_sign-at.ensures (then c2.put_count-at.ensures (then c1.put_byte-at.ensures
+    as_text (then c.put_blanks-at.ensures (then c.put_sign-at.ensures (then c.put_count-at.ensures (then c.put_byte-at.ensures
     c.put_three.ensures))))
-    (aligned start.args.minus start.args.q _ _ c4.write_count-text.ensures.1 c4.room.ensures)
+    (aligned c.args.minus c.args.q _ _ c.write_count-text.ensures.1 c.room.ensures)

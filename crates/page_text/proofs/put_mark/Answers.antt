@@ -7,11 +7,9 @@ use Rattle.page_text.proofs.put_mark.Goals as goal
 
 pub shape_of-out : goal.shape_of-out
 shape_of-out c =
-    let c1 = c in
-    same_room (then c1.put_bytes-at.ensures c.put_byte.ensures)
+    same_room (then c.put_bytes-at.ensures c.put_byte.ensures)
 
 pub returns : goal.returns
 unfolding cell_text
 returns c =
-    let c1 = c in
-    as_text (then c1.put_bytes-at.ensures c.put_byte.ensures) (refl)
+    as_text (then c.put_bytes-at.ensures c.put_byte.ensures) (refl)

@@ -18,9 +18,7 @@ shape_of-out-in-Hyphen c = same_room c.put_bytes.ensures
 pub returns-in-Hyphen : goal.returns-in-Hyphen
 unfolding shown_text number_text
 returns-in-Hyphen c =
-    let c1 = c in
-    let c2 = c1 in
-    as_text c.put_bytes.ensures (by_shown _ c1.in-Hyphen.is c2.show-shown.ensures)
+    as_text c.put_bytes.ensures (by_shown _ c.in-Hyphen.is c.show-shown.ensures)
 
 pub shape_of-out-in-Hashes : goal.shape_of-out-in-Hashes
 shape_of-out-in-Hashes c = same_room c.put_bytes-in-Hashes.ensures
@@ -28,9 +26,7 @@ shape_of-out-in-Hashes c = same_room c.put_bytes-in-Hashes.ensures
 pub returns-in-Hashes : goal.returns-in-Hashes
 unfolding shown_text number_text
 returns-in-Hashes c =
-    let c1 = c in
-    let c2 = c1 in
-    as_text c.put_bytes-in-Hashes.ensures (by_shown _ c1.in-Hashes.is c2.show-shown.ensures)
+    as_text c.put_bytes-in-Hashes.ensures (by_shown _ c.in-Hashes.is c.show-shown.ensures)
 
 pub shape_of-out-in-Fixed : goal.shape_of-out-in-Fixed
 shape_of-out-in-Fixed c = same_room c.put_fixed.ensures
@@ -38,6 +34,4 @@ shape_of-out-in-Fixed c = same_room c.put_fixed.ensures
 pub returns-in-Fixed : goal.returns-in-Fixed
 unfolding shown_text number_text
 returns-in-Fixed c =
-    let c1 = c in
-    let c2 = c1 in
-    as_text c.put_fixed.ensures (by_shown _ c1.in-Fixed.is c2.show-shown.ensures)
+    as_text c.put_fixed.ensures (by_shown _ c.in-Fixed.is c.show-shown.ensures)

@@ -13,15 +13,11 @@ overflow_add-to c = omega (arith, c.row-from.ensures, row_below c.args.code)
 
 pub slice_bounds-put_bytes-end : goal.slice_bounds-put_bytes-end
 slice_bounds-put_bytes-end c =
-    let c1 = c in
-    omega (arith, c.row-from.ensures, row_below c1.args.code, rows_length c.phrases-rows.ensures)
+    omega (arith, c.row-from.ensures, row_below c.args.code, rows_length c.phrases-rows.ensures)
 
 pub shape_of-out : goal.shape_of-out
 shape_of-out c = same_room c.put_bytes.ensures
 
 pub returns : goal.returns
 returns c =
-    let c1 = c in
-    let c2 = c1 in
-    let c3 = c2 in
-    as_text c.put_bytes.ensures (by_row c3.args.code c1.row-from.ensures c2.phrases-rows.ensures)
+    as_text c.put_bytes.ensures (by_row c.args.code c.row-from.ensures c.phrases-rows.ensures)

@@ -11,9 +11,5 @@ three p q r = cc
 
 pub returns : goal.returns
 returns c =
-    let c1 = c in
-    let c2 = c1 in
-    let c3 = c2 in
-    let c4 = c3 in
-    as_text (then c3.put_byte-at.ensures (then c1.put_byte-at-2.ensures c.put_byte.ensures))
-    (three c4.digit.ensures c2.digit-2.ensures c.digit-3.ensures)
+    as_text (then c.put_byte-at.ensures (then c.put_byte-at-2.ensures c.put_byte.ensures))
+    (three c.digit.ensures c.digit-2.ensures c.digit-3.ensures)

@@ -6,14 +6,12 @@ use Rattle.page_text.proofs.put_warning.Goals as goal
 
 pub shape_of-out-then-stands : goal.shape_of-out-then-stands
 shape_of-out-then-stands c =
-    let c1 = c in
-    same_room (then c1.put_phrase-at.ensures c.put_bytes.ensures)
+    same_room (then c.put_phrase-at.ensures c.put_bytes.ensures)
 
 pub returns-then-stands : goal.returns-then-stands
 unfolding warning_line
 returns-then-stands c =
-    let c1 = c in
-    as_text (then c1.put_phrase-at.ensures c.put_bytes.ensures) (simp
+    as_text (then c.put_phrase-at.ensures c.put_bytes.ensures) (simp
     c.if-stands.true)
 
 pub shape_of-out : goal.shape_of-out

@@ -5,25 +5,16 @@ use Rattle.phases.proofs.five.Goals as goal
 
 pub returns-then-k-lt4 : goal.returns-then-k-lt4
 returns-then-k-lt4 c =
-    let at-stencil-point = c in
-    let at-if1 = at-stencil-point in
-    let start = at-if1 in
-    five_asks start.args.stage start.args.k start.args.g start.args.e start.args.gap start.args.requested
-    start.args.entered c.asks.result at-stencil-point.stencil_point-q.result at-if1.if-k-lt4.true at-stencil-point.stencil_point-q.ensures
+    five_asks c.args.stage c.args.k c.args.g c.args.e c.args.gap c.args.requested
+    c.args.entered c.asks.result c.stencil_point-q.result c.if-k-lt4.true c.stencil_point-q.ensures
     c.asks.ensures
 
 pub returns-then-gap-ne0 : goal.returns-then-gap-ne0
 returns-then-gap-ne0 c =
-    let at-if2 = c in
-    let at-if1 = at-if2 in
-    let start = at-if1 in
-    five_stops start.args.stage start.args.k start.args.g start.args.e start.args.gap start.args.requested
-    start.args.entered c.stops.result at-if1.if-k-lt4.false at-if2.if-gap-ne0.true c.stops.ensures
+    five_stops c.args.stage c.args.k c.args.g c.args.e c.args.gap c.args.requested
+    c.args.entered c.stops.result c.if-k-lt4.false c.if-gap-ne0.true c.stops.ensures
 
 pub returns : goal.returns
 returns c =
-    let at-if2 = c in
-    let at-if1 = at-if2 in
-    let start = at-if1 in
-    five_evaluates start.args.stage start.args.k start.args.g start.args.e start.args.gap start.args.requested
-    start.args.entered c.evaluated.result at-if1.if-k-lt4.false at-if2.if-gap-ne0.false c.evaluated.ensures
+    five_evaluates c.args.stage c.args.k c.args.g c.args.e c.args.gap c.args.requested
+    c.args.entered c.evaluated.result c.if-k-lt4.false c.if-gap-ne0.false c.evaluated.ensures

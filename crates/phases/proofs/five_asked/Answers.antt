@@ -12,12 +12,12 @@ returns c =
     let a = c.args in
     ap (λ (row : ℕ). record {
       asks = true;
-      of_requested = a.of-requested;
+      of_requested = a.of_requested;
       stands = false;
       row = row;
       objective = false;
       point = a.entered;
       last = not
-          a.of-requested && leb 4 a.k;
+          a.of_requested && leb 4 a.k;
       at_fit = a.at_fit;
     }) c.five_row-row.ensures

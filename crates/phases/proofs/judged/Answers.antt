@@ -10,14 +10,12 @@ returns-then-found-ne0 c =
 
 pub returns-then-not-is_finite : goal.returns-then-not-is_finite
 returns-then-not-is_finite c =
-    let test = c in
-    let a = test.args in
-    judges_infinite a.found a.sum a.moved c.stops-then-not-is_finite.result test.if-found-ne0.false test.is_finite.result test.is_finite.ensures
+    let a = c.args in
+    judges_infinite a.found a.sum a.moved c.stops-then-not-is_finite.result c.if-found-ne0.false c.is_finite.result c.is_finite.ensures
     a.g c.if-not-is_finite.true-raw c.stops-then-not-is_finite.ensures
 
 pub returns : goal.returns
 returns c =
-    let test = c in
-    let a = test.args in
-    judges_sum a.found a.sum a.moved c.waits.result test.if-found-ne0.false test.is_finite.result test.is_finite.ensures
+    let a = c.args in
+    judges_sum a.found a.sum a.moved c.waits.result c.if-found-ne0.false c.is_finite.result c.is_finite.ensures
     c.if-not-is_finite.false-raw c.waits.ensures

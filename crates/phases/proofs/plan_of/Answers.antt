@@ -16,11 +16,10 @@ returns-in-Start c =
 
 pub returns-in-Evaluation : goal.returns-in-Evaluation
 returns-in-Evaluation c =
-    let known = c in
-    let a = known.args in
+    let a = c.args in
     c.five_asked.ensures
-    ∙ ap (λ (b : Bool). five_asked false known.in-Evaluation.k b a.entered) c.is_at_fit.ensures
-    ∙ ap (λ (x : Phase). plan_of x a.entered) (sym known.in-Evaluation.is)
+    ∙ ap (λ (b : Bool). five_asked false c.in-Evaluation.k b a.entered) c.is_at_fit.ensures
+    ∙ ap (λ (x : Phase). plan_of x a.entered) (sym c.in-Evaluation.is)
 
 pub returns-in-Trial : goal.returns-in-Trial
 returns-in-Trial c =

@@ -6,8 +6,7 @@ use Rattle.point_mass.proofs.drop_at.Goals as goal
 pub returns-then-is_sane-yards : goal.returns-then-is_sane-yards
 unfolding entry_at
 returns-then-is_sane-yards c =
-    let c1 = c in
-    simp (← c1.is_sane.ensures, c1.if-is_sane-yards.true, ← c.fly-found.ensures, ← c.in_unit.ensures)
+    simp (← c.is_sane.ensures, c.if-is_sane-yards.true, ← c.fly-found.ensures, ← c.in_unit.ensures)
 
 pub returns : goal.returns
 unfolding entry_at

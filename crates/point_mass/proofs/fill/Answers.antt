@@ -29,18 +29,17 @@ loop-i-init c = (c.shortest-n.ensures, omega arith, refl, refl, refl, refl)
 
 pub loop-i-preserved : goal.loop-i-preserved
 loop-i-preserved c =
-    let l = c in
-    let a = l.args in
-    let v = l.loop-i.invariant in
+    let a = c.args in
+    let v = c.loop-i.invariant in
     let g = entry_at a.p a.unit in
     let e = c.drop_at-found.ensures in (
       v.0,
       omega arith,
-      length-set l.loop-i.drops l.loop-i.i c.drop_or_0.result ∙ v.2,
-      length-set l.loop-i.missing l.loop-i.i c.is_missing.result ∙ v.3,
+      length-set c.loop-i.drops c.loop-i.i c.drop_or_0.result ∙ v.2,
+      length-set c.loop-i.missing c.loop-i.i c.is_missing.result ∙ v.3,
       rw (add-one, v.4, c.drop_or_0.ensures, e)
-          (one_more g drop_or0 a.distances.now a.drops.now l.loop-i.i nan (omega arith) (omega arith)),
-      rw (add-one, v.5, c.is_missing.ensures, e) (one_more g is_missing a.distances.now a.missing.now l.loop-i.i nan (omega arith) (omega arith)),
+          (one_more g drop_or0 a.distances.now a.drops.now c.loop-i.i nan (omega arith) (omega arith)),
+      rw (add-one, v.5, c.is_missing.ensures, e) (one_more g is_missing a.distances.now a.missing.now c.loop-i.i nan (omega arith) (omega arith)),
     )
 
 pub shape_of-drops : goal.shape_of-drops

@@ -8,36 +8,30 @@ returns-in_default c = simp (bands_at_lem, ← c.place-range_at.ensures, c.in_de
 
 pub returns-in_default-sigma_at : goal.returns-in_default-sigma_at
 returns-in_default-sigma_at c =
-    let c1 = c in
-    simp (bands_at_lem, ← c1.place-range_at.ensures, c1.in-Given.is, ← c.place-sigma_at.ensures, c.in_default-sigma_at.is)
+    simp (bands_at_lem, ← c.place-range_at.ensures, c.in-Given.is, ← c.place-sigma_at.ensures, c.in_default-sigma_at.is)
 
 pub returns-in_default-found : goal.returns-in_default-found
 returns-in_default-found c =
-    let c1 = c in
-    let c2 = c1 in
     simp (
       bands_at_lem,
-      ← c2.place-range_at.ensures,
-      c2.in-Given.is,
-      ← c1.place-sigma_at.ensures,
-      c1.in-Given-sigma_at.is,
+      ← c.place-range_at.ensures,
+      c.in-Given.is,
+      ← c.place-sigma_at.ensures,
+      c.in-Given-sigma_at.is,
       ← c.row_at-found.ensures,
       c.in_default-found.is,
     )
 
 pub returns : goal.returns
 returns c =
-    let c1 = c in
-    let c2 = c1 in
-    let c3 = c2 in
     simp (
       bands_at_lem,
-      ← c3.place-range_at.ensures,
-      c3.in-Given.is,
-      ← c2.place-sigma_at.ensures,
-      c2.in-Given-sigma_at.is,
-      ← c1.row_at-found.ensures,
-      c1.in-Given-found.is,
+      ← c.place-range_at.ensures,
+      c.in-Given.is,
+      ← c.place-sigma_at.ensures,
+      c.in-Given-sigma_at.is,
+      ← c.row_at-found.ensures,
+      c.in-Given-found.is,
       ← c.sigma_of-given.ensures,
       ← c.band.ensures,
     )

@@ -8,55 +8,45 @@ returns-in_default c = simp (results_at_lem, ← c.place-range_at.ensures, c.in_
 
 pub returns-in_default-drop_at : goal.returns-in_default-drop_at
 returns-in_default-drop_at c =
-    let c1 = c in
-    simp (results_at_lem, ← c1.place-range_at.ensures, c1.in-Given.is, ← c.place-drop_at.ensures, c.in_default-drop_at.is)
+    simp (results_at_lem, ← c.place-range_at.ensures, c.in-Given.is, ← c.place-drop_at.ensures, c.in_default-drop_at.is)
 
 pub returns-in_default-sigma_at : goal.returns-in_default-sigma_at
 returns-in_default-sigma_at c =
-    let c1 = c in
-    let c2 = c1 in
     simp (
       results_at_lem,
-      ← c2.place-range_at.ensures,
-      c2.in-Given.is,
-      ← c1.place-drop_at.ensures,
-      c1.in-Given-drop_at.is,
+      ← c.place-range_at.ensures,
+      c.in-Given.is,
+      ← c.place-drop_at.ensures,
+      c.in-Given-drop_at.is,
       ← c.place-sigma_at.ensures,
       c.in_default-sigma_at.is,
     )
 
 pub returns-in_default-predicted_at : goal.returns-in_default-predicted_at
 returns-in_default-predicted_at c =
-    let c1 = c in
-    let c2 = c1 in
-    let c3 = c2 in
     simp (
       results_at_lem,
-      ← c3.place-range_at.ensures,
-      c3.in-Given.is,
-      ← c2.place-drop_at.ensures,
-      c2.in-Given-drop_at.is,
-      ← c1.place-sigma_at.ensures,
-      c1.in-Given-sigma_at.is,
+      ← c.place-range_at.ensures,
+      c.in-Given.is,
+      ← c.place-drop_at.ensures,
+      c.in-Given-drop_at.is,
+      ← c.place-sigma_at.ensures,
+      c.in-Given-sigma_at.is,
       ← c.place-predicted_at.ensures,
       c.in_default-predicted_at.is,
     )
 
 pub returns : goal.returns
 returns c =
-    let c1 = c in
-    let c2 = c1 in
-    let c3 = c2 in
-    let c4 = c3 in
     simp (
       results_at_lem,
-      ← c4.place-range_at.ensures,
-      c3.in-Given.is,
-      ← c3.place-drop_at.ensures,
-      c2.in-Given-drop_at.is,
-      ← c2.place-sigma_at.ensures,
-      c1.in-Given-sigma_at.is,
-      ← c1.place-predicted_at.ensures,
+      ← c.place-range_at.ensures,
+      c.in-Given.is,
+      ← c.place-drop_at.ensures,
+      c.in-Given-drop_at.is,
+      ← c.place-sigma_at.ensures,
+      c.in-Given-sigma_at.is,
+      ← c.place-predicted_at.ensures,
       c.in-Given-predicted_at.is,
       ← c.observation_result.ensures,
     )

@@ -8,34 +8,28 @@ returns-in_default c = simp (nth_zip3, ← c.place-predicted_at.ensures, c.in_de
 
 pub returns-in_default-mv_at : goal.returns-in_default-mv_at
 returns-in_default-mv_at c =
-    let c1 = c in
-    simp (nth_zip3, ← c1.place-predicted_at.ensures, c1.in-Given.is, ← c.place-mv_at.ensures, c.in_default-mv_at.is)
+    simp (nth_zip3, ← c.place-predicted_at.ensures, c.in-Given.is, ← c.place-mv_at.ensures, c.in_default-mv_at.is)
 
 pub returns-in_default-bc_at : goal.returns-in_default-bc_at
 returns-in_default-bc_at c =
-    let c1 = c in
-    let c2 = c1 in
     simp (
       nth_zip3,
-      ← c2.place-predicted_at.ensures,
-      c2.in-Given.is,
-      ← c1.place-mv_at.ensures,
-      c1.in-Given-mv_at.is,
+      ← c.place-predicted_at.ensures,
+      c.in-Given.is,
+      ← c.place-mv_at.ensures,
+      c.in-Given-mv_at.is,
       ← c.place-bc_at.ensures,
       c.in_default-bc_at.is,
     )
 
 pub returns : goal.returns
 returns c =
-    let c1 = c in
-    let c2 = c1 in
-    let c3 = c2 in
     simp (
       nth_zip3,
-      ← c3.place-predicted_at.ensures,
-      c2.in-Given.is,
-      ← c2.place-mv_at.ensures,
-      c1.in-Given-mv_at.is,
-      ← c1.place-bc_at.ensures,
+      ← c.place-predicted_at.ensures,
+      c.in-Given.is,
+      ← c.place-mv_at.ensures,
+      c.in-Given-mv_at.is,
+      ← c.place-bc_at.ensures,
       c.in-Given-bc_at.is,
     )

@@ -13,13 +13,11 @@ use Rattle.report_parts.proofs.band_of.Goals as goal
 
 pub returns : goal.returns
 returns c =
-    let at-first-places = c in
-    let start = at-first-places in
-    let a = start.args in
-    let w = a.t2 in
-    let t = a.t3 in
+    let a = c.args in
+    let w = a.wanted in
+    let t = a.table in
     c.band_at.ensures
     ∙ ap (λ (l : List Float). nth a.i
     (zip_with (band_of (approximation_says a.a)) (zip_with requested_at l w.sigmas) (zip_with3 row_of t.predicted t.by_mv t.by_bc)))
-    at-first-places.first_places.ensures
+    c.first_places.ensures
     ∙ ap (λ (l : List Band). nth a.i l) (bands_places (approximation_says a.a) w t)

@@ -15,17 +15,14 @@ use Rattle.report_parts.proofs.baseline_of.Goals as goal
 pub returns-then-not-present : goal.returns-then-not-present
 returns-then-not-present c =
     let a = c.args in
-    sym (ap (λ (t : Bool). baseline_at a.t1 a.entered a.t3 t) (not-true a.present c.if-not-present.true-raw))
+    sym (ap (λ (t : Bool). baseline_at a.shots a.entered a.drops t) (not-true a.present c.if-not-present.true-raw))
 
 pub returns : goal.returns
 returns c =
-    let at-first-places = c in
-    let at-if1 = at-first-places in
-    let start = at-if1 in
-    let a = start.args in
-    let s = a.t1 in
-    ap (λ (x : Float). some (record { entered = a.entered; chi_square = x; observations = results_at s a.t3 }))
+    let a = c.args in
+    let s = a.shots in
+    ap (λ (x : Float). some (record { entered = a.entered; chi_square = x; observations = results_at s a.drops }))
     (c.chi_square-chi_square.ensures
-    ∙ ap (λ (l : List Float). chi_square_of (observations_of s.ranges s.drops-1 s.sigmas) l) at-first-places.first_places.ensures
-    ∙ chi_square_first s a.t3)
-    ∙ sym (ap (λ (t : Bool). baseline_at a.t1 a.entered a.t3 t) (not-false a.present at-if1.if-not-present.false-raw))
+    ∙ ap (λ (l : List Float). chi_square_of (observations_of s.ranges s.drops-1 s.sigmas) l) c.first_places.ensures
+    ∙ chi_square_first s a.drops)
+    ∙ sym (ap (λ (t : Bool). baseline_at a.shots a.entered a.drops t) (not-false a.present c.if-not-present.false-raw))

@@ -12,10 +12,8 @@ use Rattle.report_parts.proofs.result_of.Goals as goal
 
 pub returns : goal.returns
 returns c =
-    let at-first-places = c in
-    let start = at-first-places in
-    let a = start.args in
+    let a = c.args in
     c.result_at.ensures
-    ∙ ap (λ (l : List Float). nth a.i (results_of (observations_of l a.t1.drops-1 a.t1.sigmas) a.t2))
-    at-first-places.first_places.ensures
-    ∙ ap (λ (l : Results). nth a.i l) (results_places a.t1 a.t2)
+    ∙ ap (λ (l : List Float). nth a.i (results_of (observations_of l a.shots.drops a.shots.sigmas) a.drops))
+    c.first_places.ensures
+    ∙ ap (λ (l : Results). nth a.i l) (results_places a.shots a.drops)

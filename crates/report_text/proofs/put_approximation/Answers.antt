@@ -16,9 +16,6 @@ returns-in-Available c = as_text c.put_available.ensures (simp c.in-Available.is
 pub returns-in-Unavailable : goal.returns-in-Unavailable
 unfolding approximation_text word_at
 returns-in-Unavailable c =
-    let c1 = c in
-    let c2 = c1 in
-    let c3 = c2 in
-    as_text (then c2.put_start-at.ensures (then (as_text c1.put_word-at.ensures
-    c1.failure_word.ensures) c.put_byte.ensures)) (simp c3.in-Unavailable.is
+    as_text (then c.put_start-at.ensures (then (as_text c.put_word-at.ensures
+    c.failure_word.ensures) c.put_byte.ensures)) (simp c.in-Unavailable.is
     (in_brackets _))

@@ -8,39 +8,23 @@ use Rattle.report_text.proofs.put_available.Goals as goal
 
 pub shape_of-out : goal.shape_of-out
 shape_of-out c =
-    let c1 = c in
-    let c2 = c1 in
-    let c3 = c2 in
-    let c4 = c3 in
-    let c5 = c4 in
-    let c6 = c5 in
-    let c7 = c6 in
-    let c8 = c7 in
-    same_room (then c8.put_start-at.ensures
-    (then c7.put_covariance-at.ensures
-    (then c6.put_byte-at.ensures
-    (then c5.put_gaussian-at.ensures
-    (then c4.put_byte-at-2.ensures
-    (then c3.put_gaussian-at-2.ensures
-    (then c2.led_double-at.ensures (then c1.led_double-at-2.ensures
+    same_room (then c.put_start-at.ensures
+    (then c.put_covariance-at.ensures
+    (then c.put_byte-at.ensures
+    (then c.put_gaussian-at.ensures
+    (then c.put_byte-at-2.ensures
+    (then c.put_gaussian-at-2.ensures
+    (then c.led_double-at.ensures (then c.led_double-at-2.ensures
     c.put_byte.ensures))))))))
 
 pub returns : goal.returns
 unfolding available_text word_at
 returns c =
-    let c1 = c in
-    let c2 = c1 in
-    let c3 = c2 in
-    let c4 = c3 in
-    let c5 = c4 in
-    let c6 = c5 in
-    let c7 = c6 in
-    let c8 = c7 in
-    as_text (then c8.put_start-at.ensures
-    (then c7.put_covariance-at.ensures
-    (then c6.put_byte-at.ensures
-    (then c5.put_gaussian-at.ensures
-    (then c4.put_byte-at-2.ensures
-    (then c3.put_gaussian-at-2.ensures
-    (then c2.led_double-at.ensures (then c1.led_double-at-2.ensures
+    as_text (then c.put_start-at.ensures
+    (then c.put_covariance-at.ensures
+    (then c.put_byte-at.ensures
+    (then c.put_gaussian-at.ensures
+    (then c.put_byte-at-2.ensures
+    (then c.put_gaussian-at-2.ensures
+    (then c.led_double-at.ensures (then c.led_double-at-2.ensures
     c.put_byte.ensures)))))))) (in_brackets _)

@@ -8,17 +8,11 @@ use Rattle.report_text.proofs.put_declined.Goals as goal
 
 pub shape_of-out : goal.shape_of-out
 shape_of-out c =
-    let c1 = c in
-    let c2 = c1 in
-    let c3 = c2 in
-    same_room (then c3.put_start-at.ensures (then c2.put_count-at.ensures (then c1.led_count-at.ensures c.put_byte.ensures)))
+    same_room (then c.put_start-at.ensures (then c.put_count-at.ensures (then c.led_count-at.ensures c.put_byte.ensures)))
 
 pub returns : goal.returns
 unfolding declined_text word_at
 returns c =
-    let c1 = c in
-    let c2 = c1 in
-    let c3 = c2 in
-    as_text (then c3.put_start-at.ensures
-    (then c2.put_count-at.ensures (then c1.led_count-at.ensures
+    as_text (then c.put_start-at.ensures
+    (then c.put_count-at.ensures (then c.led_count-at.ensures
     c.put_byte.ensures))) (in_brackets _)

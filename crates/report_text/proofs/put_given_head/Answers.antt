@@ -8,23 +8,15 @@ use Rattle.report_text.proofs.put_given_head.Goals as goal
 
 pub shape_of-out : goal.shape_of-out
 shape_of-out c =
-    let c1 = c in
-    let c2 = c1 in
-    let c3 = c2 in
-    let c4 = c3 in
-    same_room (then c4.put_bytes-at.ensures
-    (then c3.put_double-at.ensures
-    (then c2.led_double-at.ensures (then c1.led_double-at-2.ensures
+    same_room (then c.put_bytes-at.ensures
+    (then c.put_double-at.ensures
+    (then c.led_double-at.ensures (then c.led_double-at-2.ensures
     c.put_byte.ensures))))
 
 pub returns : goal.returns
 unfolding given_head
 returns c =
-    let c1 = c in
-    let c2 = c1 in
-    let c3 = c2 in
-    let c4 = c3 in
-    as_text (then c4.put_bytes-at.ensures
-    (then c3.put_double-at.ensures
-    (then c2.led_double-at.ensures (then c1.led_double-at-2.ensures
+    as_text (then c.put_bytes-at.ensures
+    (then c.put_double-at.ensures
+    (then c.led_double-at.ensures (then c.led_double-at-2.ensures
     c.put_byte.ensures)))) (after (bytes " (") _ _)

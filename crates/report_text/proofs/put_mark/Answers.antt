@@ -10,8 +10,7 @@ shape_of-out-then-on c = same_room (then c.put_blank-at.ensures c.put_warning.en
 pub returns-then-on : goal.returns-then-on
 unfolding mark_text
 returns-then-on c =
-    let c1 = c in
-    as_text (then c1.put_blank-at.ensures c.put_warning.ensures) (simp c1.if-on.true)
+    as_text (then c.put_blank-at.ensures c.put_warning.ensures) (simp c.if-on.true)
 
 pub shape_of-out : goal.shape_of-out
 shape_of-out c = same_room c.put_bytes.ensures

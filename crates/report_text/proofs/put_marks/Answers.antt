@@ -21,7 +21,7 @@ loop-i-init c = (omega arith, refl, nothing c.within-next.ensures)
 pub loop-i-preserved : goal.loop-i-preserved
 loop-i-preserved c =
     let l = c.loop-i in
-    let on = c.args.t3 in
+    let on = c.args.on in
     let n : length on ≡ 10 = search rules in
     let m : length (take l.i on) ≡ l.i = length-take-le l.i on (omega arith) in
     let e : take (l.i + 1) on ≡ take l.i on ++ (get_or on l.i false ∷ []) =
@@ -39,6 +39,6 @@ pub returns : goal.returns
 unfolding marks_text
 returns c =
     let l = c.loop-i in
-    let on = c.args.t3 in
+    let on = c.args.on in
     let n : length on ≡ 10 = search rules in
     as_text l.invariant.2 (ap (marks_from false (place "OptimizerDidNotConverge")) (take_all l.i on (omega arith)))

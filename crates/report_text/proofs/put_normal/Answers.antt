@@ -7,16 +7,10 @@ use Rattle.report_text.proofs.put_normal.Goals as goal
 
 pub shape_of-out : goal.shape_of-out
 shape_of-out c =
-    let c1 = c in
-    let c2 = c1 in
-    let c3 = c2 in
-    same_room (then c3.put_byte-at.ensures (then c2.put_double-at.ensures (then c1.led_double-at.ensures c.put_byte.ensures)))
+    same_room (then c.put_byte-at.ensures (then c.put_double-at.ensures (then c.led_double-at.ensures c.put_byte.ensures)))
 
 pub returns : goal.returns
 unfolding normal_text
 returns c =
-    let c1 = c in
-    let c2 = c1 in
-    let c3 = c2 in
-    as_text (then c3.put_byte-at.ensures (then c2.put_double-at.ensures (then c1.led_double-at.ensures c.put_byte.ensures)))
+    as_text (then c.put_byte-at.ensures (then c.put_double-at.ensures (then c.led_double-at.ensures c.put_byte.ensures)))
     (in_brackets _)

@@ -8,13 +8,9 @@ use Rattle.report_text.proofs.put_page_count.Goals as goal
 
 pub shape_of-out : goal.shape_of-out
 shape_of-out c =
-    let c1 = c in
-    let c2 = c1 in
-    same_room (then c2.put_start-at.ensures (then c1.put_count-at.ensures c.put_byte.ensures))
+    same_room (then c.put_start-at.ensures (then c.put_count-at.ensures c.put_byte.ensures))
 
 pub returns : goal.returns
 unfolding page_count_text word_at
 returns c =
-    let c1 = c in
-    let c2 = c1 in
-    as_text (then c2.put_start-at.ensures (then c1.put_count-at.ensures c.put_byte.ensures)) (in_brackets _)
+    as_text (then c.put_start-at.ensures (then c.put_count-at.ensures c.put_byte.ensures)) (in_brackets _)

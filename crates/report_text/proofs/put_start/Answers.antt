@@ -5,6 +5,4 @@ use Rattle.report_text.proofs.put_start.Goals as goal
 
 pub returns : goal.returns
 returns c =
-    let c1 = c in
-    let c2 = c1 in
-    then c2.put_byte-at.ensures (then c1.put_word-at.ensures c.put_byte.ensures)
+    then c.put_byte-at.ensures (then c.put_word-at.ensures c.put_byte.ensures)

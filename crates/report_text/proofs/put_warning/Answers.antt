@@ -6,12 +6,8 @@ use Rattle.report_text.proofs.put_warning.Goals as goal
 
 pub shape_of-out : goal.shape_of-out
 shape_of-out c =
-    let c1 = c in
-    let c2 = c1 in
-    same_room (then c2.put_byte-at.ensures (then c1.put_word-at.ensures c.put_byte.ensures))
+    same_room (then c.put_byte-at.ensures (then c.put_word-at.ensures c.put_byte.ensures))
 
 pub returns : goal.returns
 returns c =
-    let c1 = c in
-    let c2 = c1 in
-    as_text (then c2.put_byte-at.ensures (then c1.put_word-at.ensures c.put_byte.ensures)) (in_brackets _)
+    as_text (then c.put_byte-at.ensures (then c.put_word-at.ensures c.put_byte.ensures)) (in_brackets _)

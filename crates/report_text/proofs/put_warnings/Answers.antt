@@ -8,9 +8,7 @@ use Rattle.report_text.proofs.put_warnings.Goals as goal
 
 pub returns : goal.returns
 returns c =
-    let c1 = c in
-    let c2 = c1 in
     as_text
-    (then c2.put_byte-at.ensures
-    (then (as_text c1.put_marks-at.ensures (ap marks_text c2.marks-on.ensures)) c.put_byte.ensures))
+    (then c.put_byte-at.ensures
+    (then (as_text c.put_marks-at.ensures (ap marks_text c.marks-on.ensures)) c.put_byte.ensures))
     (warnings_parts _)

@@ -7,9 +7,8 @@ use Rattle.requests.proofs.with_coefficient_prior.Goals as goal
 
 pub returns : goal.returns
 returns c =
-    let c1 = c in
-    λ o k. let a = c1.args in
+    λ o k. let a = c.args in
     priors_kept a.r o k (record { muzzle_velocity_fps = a.r.priors.muzzle_velocity_fps; ballistic_coefficient = normal a.mean a.sigma })
-    (record { muzzle_velocity_fps = o.decreases.priors.muzzle_velocity_fps; ballistic_coefficient = normal a.mean a.sigma })
+    (record { muzzle_velocity_fps = o.measured.priors.muzzle_velocity_fps; ballistic_coefficient = normal a.mean a.sigma })
     (ap (λ (p : TruingPriorsV1). record { muzzle_velocity_fps = p.muzzle_velocity_fps; ballistic_coefficient = normal a.mean a.sigma })
     (priors_are a.r o k))

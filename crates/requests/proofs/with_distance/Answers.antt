@@ -4,9 +4,8 @@ use Rattle.requests.proofs.Kept.{distance_full, distance_more}
 use Rattle.requests.proofs.with_distance.Goals as goal
 
 pub returns-then-m-ge65 : goal.returns-then-m-ge65
-returns-then-m-ge65 c = λ o k. let a = c.args in distance_full a.r o k a.range a.sigma a.is-given c.if-m-ge65.true
+returns-then-m-ge65 c = λ o k. let a = c.args in distance_full a.r o k a.range a.sigma a.is_given c.if-m-ge65.true
 
 pub returns : goal.returns
 returns c =
-    let c1 = c in
-    λ o k. let a = c1.args in distance_more a.r o k a.range a.sigma a.is-given c1.if-m-ge65.false
+    λ o k. let a = c.args in distance_more a.r o k a.range a.sigma a.is_given c.if-m-ge65.false

@@ -8,5 +8,4 @@ returns-then-n-ge65 c = λ o k. let a = c.args in shot_full a.r o k a.range a.dr
 
 pub returns : goal.returns
 returns c =
-    let c1 = c in
-    λ o k. let a = c1.args in shot_more a.r o k a.range a.drop a.sigma c1.if-n-ge65.false
+    λ o k. let a = c.args in shot_more a.r o k a.range a.drop a.sigma c.if-n-ge65.false

@@ -7,9 +7,8 @@ use Rattle.requests.proofs.with_speed_prior.Goals as goal
 
 pub returns : goal.returns
 returns c =
-    let c1 = c in
-    λ o k. let a = c1.args in
+    λ o k. let a = c.args in
     priors_kept a.r o k (record { muzzle_velocity_fps = normal a.mean a.sigma; ballistic_coefficient = a.r.priors.ballistic_coefficient })
-    (record { muzzle_velocity_fps = normal a.mean a.sigma; ballistic_coefficient = o.decreases.priors.ballistic_coefficient })
+    (record { muzzle_velocity_fps = normal a.mean a.sigma; ballistic_coefficient = o.measured.priors.ballistic_coefficient })
     (ap (λ (p : TruingPriorsV1). record { muzzle_velocity_fps = normal a.mean a.sigma; ballistic_coefficient = p.ballistic_coefficient })
     (priors_are a.r o k))

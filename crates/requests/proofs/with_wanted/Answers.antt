@@ -9,12 +9,10 @@ use Rattle.requests.proofs.with_wanted.Goals as goal
 
 pub returns-in-Absent : goal.returns-in-Absent
 returns-in-Absent c =
-    let c1 = c in
-    λ o k. subst (λ (s : Number). Keeps c.with_distance.result (with_distance o (requested_with c1.args.range (number_of s))))
+    λ o k. subst (λ (s : Number). Keeps c.with_distance.result (with_distance o (requested_with c.args.range (number_of s))))
     (sym c.in-Absent.is) (c.with_distance.ensures o k)
 
 pub returns-in-Given : goal.returns-in-Given
 returns-in-Given c =
-    let c1 = c in
-    λ o k. subst (λ (s : Number). Keeps c.with_distance-in-Given.result (with_distance o (requested_with c1.args.range (number_of s))))
+    λ o k. subst (λ (s : Number). Keeps c.with_distance-in-Given.result (with_distance o (requested_with c.args.range (number_of s))))
     (sym c.in-Given.is) (c.with_distance-in-Given.ensures o k)

@@ -11,17 +11,10 @@ returns-then-not-is_standing c = no_baseline_result c.args.s c.args.i (failed _ 
 
 pub returns-then-not-s : goal.returns-then-not-s
 returns-then-not-s c =
-    let at-if1 = c in
-    let at-is-standing = at-if1 in
-    let start = at-is-standing in
-    without_baseline_lem start.args.s start.args.i (sym at-is-standing.is_standing.ensures ∙ not-false _ at-if1.if-not-is_standing.false-raw)
+    without_baseline_lem c.args.s c.args.i (sym c.is_standing.ensures ∙ not-false _ c.if-not-is_standing.false-raw)
     (not-true _ c.if-not-s.true)
 
 pub returns : goal.returns
 returns c =
-    let at-if2 = c in
-    let at-if1 = at-if2 in
-    let at-is-standing = at-if1 in
-    let start = at-is-standing in
-    a_baseline_result start.args.s start.args.i c.result_of.result
-    (sym at-is-standing.is_standing.ensures ∙ not-false _ at-if1.if-not-is_standing.false-raw) (not-false _ at-if2.if-not-s.false) c.result_of.ensures
+    a_baseline_result c.args.s c.args.i c.result_of.result
+    (sym c.is_standing.ensures ∙ not-false _ c.if-not-is_standing.false-raw) (not-false _ c.if-not-s.false) c.result_of.ensures

@@ -12,9 +12,5 @@ returns-then-not-is_standing c =
 
 pub returns : goal.returns
 returns c =
-    let at-bands-count = c in
-    let at-if1 = at-bands-count in
-    let at-is-standing = at-if1 in
-    let start = at-is-standing in
-    fitted_some start.args.s at-bands-count.bands_count-n.result (sym at-is-standing.is_standing.ensures ∙ not-false _ at-if1.if-not-is_standing.false-raw)
-    at-bands-count.bands_count-n.ensures
+    fitted_some c.args.s c.bands_count-n.result (sym c.is_standing.ensures ∙ not-false _ c.if-not-is_standing.false-raw)
+    c.bands_count-n.ensures

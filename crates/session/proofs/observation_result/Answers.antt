@@ -11,8 +11,5 @@ returns-then-not-is_standing c = no_result c.args.s c.args.i (failed _ _ c.is_st
 
 pub returns : goal.returns
 returns c =
-    let at-if1 = c in
-    let at-is-standing = at-if1 in
-    let start = at-is-standing in
-    a_result start.args.s start.args.i c.result_of.result (sym at-is-standing.is_standing.ensures ∙ not-false _ at-if1.if-not-is_standing.false-raw)
+    a_result c.args.s c.args.i c.result_of.result (sym c.is_standing.ensures ∙ not-false _ c.if-not-is_standing.false-raw)
     c.result_of.ensures

@@ -11,10 +11,6 @@ returns-then-not-is_standing c = no_band c.args.s c.args.i (failed _ _ c.is_stan
 
 pub returns : goal.returns
 returns c =
-    let at-approximation-of = c in
-    let at-if1 = at-approximation-of in
-    let at-is-standing = at-if1 in
-    let start = at-is-standing in
-    a_band start.args.s start.args.i c.band_of.result at-approximation-of.approximation_of-a.result
-    (sym at-is-standing.is_standing.ensures ∙ not-false _ at-if1.if-not-is_standing.false-raw) at-approximation-of.approximation_of-a.ensures
+    a_band c.args.s c.args.i c.band_of.result c.approximation_of-a.result
+    (sym c.is_standing.ensures ∙ not-false _ c.if-not-is_standing.false-raw) c.approximation_of-a.ensures
     c.band_of.ensures

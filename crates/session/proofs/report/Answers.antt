@@ -11,17 +11,10 @@ returns-then-not-is_standing c = none_shown c.args.s (failed _ _ c.is_standing.e
 
 pub returns : goal.returns
 returns c =
-    let at-any-outside = c in
-    let at-bands-count = at-any-outside in
-    let at-results-count = at-bands-count in
-    let at-baseline-of = at-results-count in
-    let at-if1 = at-baseline-of in
-    let at-is-standing = at-if1 in
-    let start = at-is-standing in
-    let s = start.args.s in
-    shown s c.report.result (sym at-is-standing.is_standing.ensures ∙ not-false _ at-if1.if-not-is_standing.false-raw)
-    (head_of s.body c.report.result at-results-count.results_count-n.result at-bands-count.bands_count-m.result
-    at-baseline-of.baseline_of-baseline.result at-any-outside.any_outside-outside.result
-    (standing_within s (sym at-is-standing.is_standing.ensures ∙ not-false _ at-if1.if-not-is_standing.false-raw)) c.report.ensures
-    at-results-count.results_count-n.ensures at-bands-count.bands_count-m.ensures at-any-outside.any_outside-outside.ensures
-    at-baseline-of.baseline_of-baseline.ensures)
+    let s = c.args.s in
+    shown s c.report.result (sym c.is_standing.ensures ∙ not-false _ c.if-not-is_standing.false-raw)
+    (head_of s.body c.report.result c.results_count-n.result c.bands_count-m.result
+    c.baseline_of-baseline.result c.any_outside-outside.result
+    (standing_within s (sym c.is_standing.ensures ∙ not-false _ c.if-not-is_standing.false-raw)) c.report.ensures
+    c.results_count-n.ensures c.bands_count-m.ensures c.any_outside-outside.ensures
+    c.baseline_of-baseline.ensures)

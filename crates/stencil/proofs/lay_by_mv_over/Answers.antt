@@ -11,8 +11,6 @@ use Rattle.stencil.proofs.lay_by_mv_over.Goals as goal
 
 pub returns : goal.returns
 returns c =
-    let laid = c in
-    let start = laid in
-    let row = start.args.row in
-    let drops = map drop_or0 (entries_of start.args.reply.now start.args.missing.now) in
-    laid.lay_pair.ensures ∙ ap (λ (x : Float). laid_pair (eqb row 1) (eqb row 2) x drops start.args.out-1.now) laid.mv_step.ensures
+    let row = c.args.row in
+    let drops = map drop_or0 (entries_of c.args.reply.now c.args.missing.now) in
+    c.lay_pair.ensures ∙ ap (λ (x : Float). laid_pair (eqb row 1) (eqb row 2) x drops c.args.out.now) c.mv_step.ensures

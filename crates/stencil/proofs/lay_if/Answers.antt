@@ -4,8 +4,7 @@ use Rattle.stencil.proofs.lay_if.Goals as goal
 
 pub returns-then-here : goal.returns-then-here
 returns-then-here c =
-    let a = c in
-    simp (a.if-here.true, ← a.lay_drops.ensures)
+    simp (c.if-here.true, ← c.lay_drops.ensures)
 
 pub returns : goal.returns
 returns c = simp c.if-here.false

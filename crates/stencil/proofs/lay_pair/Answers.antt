@@ -4,14 +4,11 @@ use Rattle.stencil.proofs.lay_pair.Goals as goal
 
 pub returns-then-plus : goal.returns-then-plus
 returns-then-plus c =
-    let a = c in
-    simp (a.if-plus.true, ← a.lay_drops.ensures)
+    simp (c.if-plus.true, ← c.lay_drops.ensures)
 
 pub returns-then-minus : goal.returns-then-minus
 returns-then-minus c =
-    let a = c in
-    let b = a in
-    simp (b.if-plus.false, b.if-minus.true, ← a.lay_slopes.ensures)
+    simp (c.if-plus.false, c.if-minus.true, ← c.lay_slopes.ensures)
 
 pub returns : goal.returns
 returns c = simp (c.if-plus.false, c.if-minus.false)

@@ -20,10 +20,5 @@ returns-then-k-eq3 c = c.bc_plus.ensures ∙ ap (λ (k : ℕ). point_at k c.args
 
 pub returns : goal.returns
 returns c =
-    let at-if4 = c in
-    let at-if3 = at-if4 in
-    let at-if2 = at-if3 in
-    let at-if1 = at-if2 in
-    let start = at-if1 in
-    c.bc_minus.ensures ∙ point_past start.args.k start.args.p at-if1.if-k-eq0.false at-if2.if-k-eq1.false at-if3.if-k-eq2.false
-    at-if4.if-k-eq3.false
+    c.bc_minus.ensures ∙ point_past c.args.k c.args.p c.if-k-eq0.false c.if-k-eq1.false c.if-k-eq2.false
+    c.if-k-eq3.false

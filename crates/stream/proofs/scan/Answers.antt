@@ -24,10 +24,8 @@ overflow_add-i c = omega arith
 
 pub returns-then-c-eq10 : goal.returns-then-c-eq10
 returns-then-c-eq10 c =
-    let c1 = c in
-    let c2 = c1 in
-    let a = c2.args in
-    let l = c1.loop-i in
+    let a = c.args in
+    let l = c.loop-i in
     scan_ends a.bytes.now a.r a.at (reader_in l.word-1 l.len l.first l.begun l.line-1) l.i l.invariant
     c.loop-i-test.true c.if-c-eq10.true
 
@@ -36,15 +34,12 @@ loop-i-smaller-then-c-eq32 c = let e = c.loop-i-test in omega arith
 
 pub loop-i-preserved-then-c-eq32 : goal.loop-i-preserved-then-c-eq32
 loop-i-preserved-then-c-eq32 c =
-    let c1 = c in
-    let c2 = c1 in
-    let c3 = c2 in
-    let a = c3.args in
-    let l = c2.loop-i in
-    scan_on a.bytes.now a.r a.at (reader_in l.word-1 l.len l.first l.begun l.line-1) l.i l.invariant c2.loop-i-test.true _
-    c1.if-c-eq10.false (λ s k.
+    let a = c.args in
+    let l = c.loop-i in
+    scan_on a.bytes.now a.r a.at (reader_in l.word-1 l.len l.first l.begun l.line-1) l.i l.invariant c.loop-i-test.true _
+    c.if-c-eq10.false (λ s k.
     reads_blank (reader_in l.word-1 l.len l.first l.begun l.line-1) s k (get_or a.bytes.now l.i 0) c.take-line.result
-    (eq-eqb (get_or a.bytes.now l.i 0) 32 c1.if-c-eq32.true)
+    (eq-eqb (get_or a.bytes.now l.i 0) 32 c.if-c-eq32.true)
     (c.take-line.ensures ∙ ap (λ (w : List ℕ). take_of l.line-1 w l.first false) c.word_of.ensures))
 
 pub bounds-word-len : goal.bounds-word-len
@@ -58,11 +53,9 @@ loop-i-smaller-then-len-lt32 c = omega arith
 
 pub loop-i-preserved-then-len-lt32 : goal.loop-i-preserved-then-len-lt32
 loop-i-preserved-then-len-lt32 c =
-    let c1 = c in
-    let c2 = c1 in
-    let a = c2.args in
-    let l = c1.loop-i in
-    scan_on a.bytes.now a.r a.at (reader_in l.word-1 l.len l.first l.begun l.line-1) l.i l.invariant c1.loop-i-test.true _
+    let a = c.args in
+    let l = c.loop-i in
+    scan_on a.bytes.now a.r a.at (reader_in l.word-1 l.len l.first l.begun l.line-1) l.i l.invariant c.loop-i-test.true _
     c.if-c-eq10.false (λ s k.
     reads_more (reader_in l.word-1 l.len l.first l.begun l.line-1) s k (get_or a.bytes.now l.i 0)
     (ne_eqb (get_or a.bytes.now l.i 0) 32 c.if-c-eq32.false) c.if-len-lt32.true)
@@ -72,11 +65,9 @@ loop-i-smaller c = omega arith
 
 pub loop-i-preserved : goal.loop-i-preserved
 loop-i-preserved c =
-    let c1 = c in
-    let c2 = c1 in
-    let a = c2.args in
-    let l = c1.loop-i in
-    scan_on a.bytes.now a.r a.at (reader_in l.word-1 l.len l.first l.begun l.line-1) l.i l.invariant c1.loop-i-test.true _
+    let a = c.args in
+    let l = c.loop-i in
+    scan_on a.bytes.now a.r a.at (reader_in l.word-1 l.len l.first l.begun l.line-1) l.i l.invariant c.loop-i-test.true _
     c.if-c-eq10.false (λ s k.
     reads_full (reader_in l.word-1 l.len l.first l.begun l.line-1) s k (get_or a.bytes.now l.i 0)
     (ne_eqb (get_or a.bytes.now l.i 0) 32 c.if-c-eq32.false) c.if-len-lt32.false)

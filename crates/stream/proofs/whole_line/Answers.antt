@@ -9,6 +9,5 @@ use Rattle.stream.proofs.whole_line.Goals as goal
 
 pub returns : goal.returns
 returns c =
-    let c1 = c in
-    λ s k. let a = c1.args in
-    ap form_in (c.take.ensures ∙ ap (λ (w : List ℕ). take_of a.t1.line-1 w a.t1.first true) c.first_bytes.ensures) ∙ ends_line a.t1 s k
+    λ s k. let a = c.args in
+    ap form_in (c.take.ensures ∙ ap (λ (w : List ℕ). take_of a.r.line w a.r.first true) c.first_bytes.ensures) ∙ ends_line a.r s k

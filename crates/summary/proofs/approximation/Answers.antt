@@ -14,5 +14,4 @@ returns-then-at_bound c = simp (← c.parameter_at_bound-at_bound.ensures, c.if-
 pub returns : goal.returns
 unfolding approximation_of
 returns c =
-    let c1 = c in
-    simp (← c1.parameter_at_bound-at_bound.ensures, c.if-not-converged.false-raw, c.if-at_bound.false, ← c.build_approximation.ensures)
+    simp (← c.parameter_at_bound-at_bound.ensures, c.if-not-converged.false-raw, c.if-at_bound.false, ← c.build_approximation.ensures)

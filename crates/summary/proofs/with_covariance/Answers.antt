@@ -7,28 +7,23 @@ returns-in_default c = simp (← c.covariance-physical.ensures, ← c.from_varia
 
 pub returns-in_default-bc : goal.returns-in_default-bc
 returns-in_default-bc c =
-    let c1 = c in
-    let c2 = c1 in
     simp (
-      ← c2.covariance-physical.ensures,
-      ← c1.from_variance-mv.ensures,
-      c1.in-Present.is,
+      ← c.covariance-physical.ensures,
+      ← c.from_variance-mv.ensures,
+      c.in-Present.is,
       ← c.from_variance-bc.ensures,
       c.in_default-bc.is,
     )
 
 pub returns-then-is_finite : goal.returns-then-is_finite
 returns-then-is_finite c =
-    let c1 = c in
-    let c2 = c1 in
-    let c3 = c2 in
     simp (
-      ← c3.covariance-physical.ensures,
-      ← c3.from_variance-mv.ensures,
-      c2.in-Present.is,
-      ← c2.from_variance-bc.ensures,
-      c1.in-Present-bc.is,
-      ← c1.correlation-found.ensures,
+      ← c.covariance-physical.ensures,
+      ← c.from_variance-mv.ensures,
+      c.in-Present.is,
+      ← c.from_variance-bc.ensures,
+      c.in-Present-bc.is,
+      ← c.correlation-found.ensures,
       ← c.is_finite.ensures,
       c.if-is_finite.true,
       ← c.clamp-clamped.ensures,
@@ -36,15 +31,12 @@ returns-then-is_finite c =
 
 pub returns : goal.returns
 returns c =
-    let c1 = c in
-    let c2 = c1 in
-    let c3 = c2 in
     simp (
-      ← c3.covariance-physical.ensures,
-      ← c2.from_variance-mv.ensures,
-      c2.in-Present.is,
-      ← c1.from_variance-bc.ensures,
-      c1.in-Present-bc.is,
+      ← c.covariance-physical.ensures,
+      ← c.from_variance-mv.ensures,
+      c.in-Present.is,
+      ← c.from_variance-bc.ensures,
+      c.in-Present-bc.is,
       ← c.correlation-found.ensures,
       ← c.is_finite.ensures,
       c.if-is_finite.false,
