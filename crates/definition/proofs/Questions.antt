@@ -71,7 +71,7 @@ module _ {Q : Point → Which → Type 0} {A B : Type 0} where
   asks_after stops k = stops
 
 -- hosts that reply alike to every question play alike
-pub same_play : {A : Type 0} {n : ℕ} {t : Run A} (g h : Host) → Asks (λ p w. g p w ≡ h p w) n t → play g t ≡ play h t
+pub same_play : {A : Type 0} (g h : Host) {n : ℕ} {t : Run A} → Asks (λ p w. g p w ≡ h p w) n t → play g t ≡ play h t
 same_play g h finishes = refl
 same_play g h stops = refl
 same_play g h (asks {p = p} {w = w} {k = k} e s) = same_play g h (s (g p w)) ∙ ap (λ (r : Reply). play h (k r)) e
@@ -284,4 +284,4 @@ module _ {Q : Point → Which → Type 0} where
   asks_edit c (exchange i d) h = asks_after (asks_require (sound_requested_of d) 7 i) (λ v. asks_asked c (exchange i d) i d h)
 
 pub count_of_edit : CountOfEdit
-count_of_edit c e rs = asks_put {Q = λ p w. Unit {0}} rs (asks_edit c e (every_new _ (λ p x. tt) e))
+count_of_edit c e rs = asks_put {Q = λ p w. Unit {0}} rs (asks_edit c e (every_new (λ p w. Unit {0}) (λ p x. tt {0}) e))

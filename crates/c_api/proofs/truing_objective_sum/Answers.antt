@@ -14,7 +14,9 @@ returns-then-observations-n c =
     let q = priors_of a.priors a.speed_mean a.speed_sigma a.coefficient_mean a.coefficient_sigma in
     let p : Point = record { mv = a.speed; bc = a.coefficient } in
     let o = sum_outcome q p a.observations.now a.replies.now a.out.now in
-    answered o (sum_1 q p a.observations.now a.replies.now a.out.now c.if-observations-n.true)
+    let w =
+        answered o (sum_1 q p a.observations.now a.replies.now a.out.now c.if-observations-n.true) in
+    record { value = w.0; out_after = w.1 }
 
 pub returns-then-replies-n : goal.returns-then-replies-n
 returns-then-replies-n c =
@@ -22,7 +24,9 @@ returns-then-replies-n c =
     let q = priors_of a.priors a.speed_mean a.speed_sigma a.coefficient_mean a.coefficient_sigma in
     let p : Point = record { mv = a.speed; bc = a.coefficient } in
     let o = sum_outcome q p a.observations.now a.replies.now a.out.now in
-    answered o (sum_2 q p a.observations.now a.replies.now a.out.now c.if-observations-n.false c.if-replies-n.true)
+    let w =
+        answered o (sum_2 q p a.observations.now a.replies.now a.out.now c.if-observations-n.false c.if-replies-n.true) in
+    record { value = w.0; out_after = w.1 }
 
 pub returns-then-out-lt-DOUBLE : goal.returns-then-out-lt-DOUBLE
 returns-then-out-lt-DOUBLE c =
@@ -30,7 +34,9 @@ returns-then-out-lt-DOUBLE c =
     let q = priors_of a.priors a.speed_mean a.speed_sigma a.coefficient_mean a.coefficient_sigma in
     let p : Point = record { mv = a.speed; bc = a.coefficient } in
     let o = sum_outcome q p a.observations.now a.replies.now a.out.now in
-    answered o (sum_3 q p a.observations.now a.replies.now a.out.now c.if-observations-n.false c.if-replies-n.false c.if-out-lt-DOUBLE.true)
+    let w =
+        answered o (sum_3 q p a.observations.now a.replies.now a.out.now c.if-observations-n.false c.if-replies-n.false c.if-out-lt-DOUBLE.true) in
+    record { value = w.0; out_after = w.1 }
 
 pub sum-requires : goal.sum-requires
 sum-requires c =
@@ -46,8 +52,10 @@ returns c =
     let a = c.args in
     let q = priors_of a.priors a.speed_mean a.speed_sigma a.coefficient_mean a.coefficient_sigma in
     let p : Point = record { mv = a.speed; bc = a.coefficient } in
-    let o = sum_outcome q p a.observations.now a.replies.now a.out-1.now in
-    answered o
-    (sum_0 q p a.observations.now a.replies.now a.out-1.now c.if-observations-n.false c.if-replies-n.false
-    c.put_double.new.out c.if-out-lt-DOUBLE.false
-    (c.put_double.ensures ∙ rw (c.sum.ensures, c.priors_of-given.ensures)))
+    let o = sum_outcome q p a.observations.now a.replies.now a.out.now in
+    let w =
+        answered o
+        (sum_0 q p a.observations.now a.replies.now a.out.now c.if-observations-n.false c.if-replies-n.false
+        c.put_double.new.out c.if-out-lt-DOUBLE.false
+        (c.put_double.ensures ∙ rw (c.sum.ensures, c.priors_of-given.ensures))) in
+    record { value = w.0; out_after = w.1 }

@@ -27,13 +27,4 @@ pub returns-in-6 : goal.returns-in-6
 returns-in-6 c = rw c.in-6.is
 
 pub returns-in_default : goal.returns-in_default
-returns-in_default c =
-    let a = c.args in
-    let j = a.j in
-    let n = c.in_default.rest in
-    sym
-    (direction_last a.axis j
-    (past 6 j
-    (past 5 j
-    (past 4 j (past 3 j (past 2 j (past 1 j (past 0 j (omega arith) n.0.0.0.0.0.0.1) n.0.0.0.0.0.1) n.0.0.0.0.1) n.0.0.0.1)
-    n.0.0.1) n.0.1) n.1))
+returns-in_default c = sym (direction_last c.args.axis c.args.j (omega arith))

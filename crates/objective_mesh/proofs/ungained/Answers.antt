@@ -16,7 +16,7 @@ returns-in-Moved c =
     let a = c.args in
     let l = c.loop-left in
     let e : l.left ≡ suc (l.left - 1) = omega arith in
-    ungained_moved a.axis l.radius-now a.centre a.current l.best-now a.evaluations e
+    ungained_moved a.axis l.radius_now a.centre a.current l.best_now a.evaluations e
     c.quartered-radius_now.ensures c.look-found.ensures c.in-Moved.is
     c.pass_at-s.ensures
     ∙ l.invariant
@@ -26,7 +26,7 @@ loop-left-preserved c =
     let a = c.args in
     let l = c.loop-left in
     let e : l.left ≡ suc (l.left - 1) = omega arith in
-    ungained_none a.axis l.radius-now a.centre a.current l.best-now a.evaluations e c.quartered-radius_now.ensures
+    ungained_none a.axis l.radius_now a.centre a.current l.best_now a.evaluations e c.quartered-radius_now.ensures
     c.look-found.ensures c.in_default.is
     ∙ l.invariant
 
@@ -34,4 +34,4 @@ pub returns : goal.returns
 returns c =
     let a = c.args in
     let l = c.loop-left in
-    ungained_end a.axis l.radius-now a.centre a.current l.best-now a.evaluations (omega arith) c.searched-r.ensures ∙ l.invariant
+    ungained_end a.axis l.radius_now a.centre a.current l.best_now a.evaluations (omega arith) c.searched-r.ensures ∙ l.invariant
