@@ -1,33 +1,33 @@
-// Words and numbers to standard output. What cannot be written is dropped.
-use libc::STDOUT_FILENO;
+// Words and numbers to standard output.
+use std::io;
 
-pub fn text(s: &[u8]) {
-    let written = io::write_all(STDOUT_FILENO, s);
+pub fn text(rt: &HostRuntime, s: &[u8]) -> io::Result<()> {
+    rt.write_all(s)
 }
 
 // The first `end` bytes.
-pub fn first(out: &[u8], end: usize) {
-    text(slices::first_bytes(out, end));
+pub fn first(rt: &HostRuntime, out: &[u8], end: usize) -> io::Result<()> {
+    text(rt, slices::first_bytes(out, end))
 }
 
 // Words and a count.
-pub fn count(before: &[u8], n: u64) {
-    text(before);
-    let written = io::print_decimal(STDOUT_FILENO, n);
+pub fn count(rt: &HostRuntime, before: &[u8], n: u64) -> io::Result<()> {
+    text(rt, before)?;
+    print!(rt; "{n}")
 }
 
 // A number in the 14 columns that a page has for it.
-pub fn column(x: f64) {
+pub fn column(rt: &HostRuntime, x: f64) -> io::Result<()> {
     let mut columns = [b' '; 14];
     let next = page_text::put_number(&mut columns, 0, x);
-    text(&columns);
+    text(rt, &columns)
 }
 
 // A label in its 20 columns, and three numbers, as in a line of a page.
-pub fn row(label: &[u8], a: f64, b: f64, c: f64) {
-    text(label);
-    column(a);
-    column(b);
-    column(c);
-    text(b"\n");
+pub fn row(rt: &HostRuntime, label: &[u8], a: f64, b: f64, c: f64) -> io::Result<()> {
+    text(rt, label)?;
+    column(rt, a)?;
+    column(rt, b)?;
+    column(rt, c)?;
+    text(rt, b"\n")
 }

@@ -1,32 +1,49 @@
 // Reads doubles, a line of the 16 hexadecimal digits of its bits each, and writes each one's root so. A line of another form ends it.
 #![tactic(auto)]
-use libc::{STDIN_FILENO, STDOUT_FILENO};
 use numerals::ReadDouble;
+use std::io;
+use std::io::{ErrorKind, Read};
+
+// Reads a line of 16 digits and its end; false where the input has no whole one left.
+fn read_line<R: Read>(input: &mut R, line: &mut [u8; 17]) -> io::Result<bool> {
+    match input.read_exact(line) {
+        Ok(()) => Ok(true),
+        Err(e) => {
+            if e.kind() == ErrorKind::UnexpectedEof {
+                return Ok(false);
+            }
+            Err(e)
+        }
+    }
+}
 
 // Reads a line, writes its answer, and says whether to go on.
-fn answer() -> bool {
-    let mut digits = [0u8; 16];
-    let mut end = [0u8; 1];
-    let n = io::read_full(STDIN_FILENO, &mut digits) + io::read_full(STDIN_FILENO, &mut end);
-    if n < 17 {
-        return false;
+fn answer<R: Read>(rt: &HostRuntime, input: &mut R) -> io::Result<bool> {
+    let mut line = [0u8; 17];
+    if !read_line(input, &mut line)? {
+        return Ok(false);
     }
-    if end[0] != 10 {
-        return false;
+    if line[16] != 10 {
+        return Ok(false);
     }
-    match numerals::read_double(&digits) {
-        ReadDouble::Malformed => false,
+    match numerals::read_double(&line[..16]) {
+        ReadDouble::Malformed => Ok(false),
         ReadDouble::Double(x) => {
             let root = numerals::write_double(root::root(x));
-            io::write_all(STDOUT_FILENO, &root) && io::write_all(STDOUT_FILENO, &[10u8])
+            rt.write_all(&root)?;
+            rt.write_all(&[10u8])?;
+            Ok(true)
         }
     }
 }
 
 // A proved loop has to end, and nothing says that the input does: no run uses up this count.
-fn main() {
-    let mut turns = u64::MAX;
-    while turns > 0 && answer() {
-        turns -= 1;
+fn main(rt: HostRuntime) -> io::Result<()> {
+    let mut input = rt.reader();
+    for _ in 0..u64::MAX {
+        if !answer(&rt, &mut input)? {
+            break;
+        }
     }
+    Ok(())
 }

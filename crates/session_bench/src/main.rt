@@ -7,7 +7,8 @@ ghost use Rattle.std.specs.Prelude.{◌≡◌, take};
 
 use definition::{Distances, NormalPriorV1, Point, Prior, Step, TruingPriorsV1};
 use editing::Answer;
-use libc::{STDIN_FILENO, STDOUT_FILENO};
+use std::io;
+use std::io::{Input, Read};
 use numerals::ReadCount;
 use numeric::DropUnit;
 
@@ -256,22 +257,21 @@ fn counted(out: &mut [u8; 32768], line: &[u8]) -> Total {
     runs(out, word(line, 0), n, m, word(line, 3), writes)
 }
 
-fn print_line(out: &[u8; 32768], n: usize) -> bool {
-    io::write_all(STDOUT_FILENO, slices::first_bytes(out, n))
-        && io::write_all(STDOUT_FILENO, &[10u8])
+fn print_line(rt: &HostRuntime, out: &[u8; 32768], n: usize) -> io::Result<()> {
+    rt.write_all(slices::first_bytes(out, n))?;
+    rt.write_all(&[10u8])
 }
 
-fn main() {
+fn main(rt: HostRuntime) -> io::Result<()> {
     let mut space = [0u8; 4096];
     let mut out = [0u8; 32768];
-    let got = libc::read(STDIN_FILENO, &mut space);
-    let n = io::count(got, &space);
-    let total = counted(&mut out, &space[..n]);
-    let written = io::print_decimal(STDOUT_FILENO, total.questions)
-        && io::write_all(STDOUT_FILENO, &[32u8])
-        && io::print_decimal(STDOUT_FILENO, total.bytes)
-        && io::write_all(STDOUT_FILENO, &[10u8]);
-    if word(&space[..n], 4) == 1 {
-        let shown = print_line(&out, total.last);
+    let mut input = rt.reader();
+    let n = input.read(&mut space)?;
+    let line = slices::first_bytes(&space, n);
+    let total = counted(&mut out, line);
+    println!(rt; "{} {}", total.questions, total.bytes)?;
+    if word(line, 4) == 1 {
+        print_line(&rt, &out, total.last)?;
     }
+    Ok(())
 }

@@ -6,7 +6,7 @@ ghost use Rattle.std.specs.Prelude.{[]};
 ghost use Rattle.conversation.specs.Conversation.{initial};
 ghost use Rattle.stream.specs.Bytes.{Holds, Feeds, Finishes};
 
-use libc::{STDIN_FILENO, STDOUT_FILENO};
+use std::io;
 use stream::{Fed, State};
 
 // Nothing is read yet.
@@ -32,24 +32,24 @@ fn finish(s: State, out: &mut [u8; 32768]) -> usize
 
 // ---- the loop
 
-fn write_out(out: &[u8; 32768], end: usize) {
-    let written = io::write_all(STDOUT_FILENO, slices::first_bytes(out, end));
+fn write_out(rt: &HostRuntime, out: &[u8; 32768], end: usize) -> io::Result<()> {
+    rt.write_all(slices::first_bytes(out, end))
 }
 
 // Takes the bytes that were read, and writes each answer out.
-fn take_bytes(s: State, bytes: &[u8]) -> State {
+fn take_bytes(rt: &HostRuntime, s: State, bytes: &[u8]) -> io::Result<State> {
     let mut out = [0u8; 32768];
     let mut state = s;
     let mut at = 0usize;
     while at < bytes.len() {
         let fed = feed(state, bytes, at, &mut out);
         let len = fed.len;
-        write_out(&out, len);
+        write_out(rt, &out, len)?;
         let next = fed.state;
         state = next;
         at = fed.at;
     }
-    state
+    Ok(state)
 }
 
 #[derive(Clone, Copy)]
@@ -59,32 +59,32 @@ struct Read {
 }
 
 // Reads once, and takes what came.
-fn read_some(s: State) -> Read {
+fn read_some<R: io::Read>(rt: &HostRuntime, input: &mut R, s: State) -> io::Result<Read> {
     let mut space = [0u8; 4096];
-    let got = libc::read(STDIN_FILENO, &mut space);
-    let n = io::count(got, &space);
+    let n = input.read(&mut space)?;
     if n == 0 {
-        return Read {
+        return Ok(Read {
             state: s,
             more: false,
-        };
+        });
     }
-    let state = take_bytes(s, &space[..n]);
-    Read { state, more: true }
+    let state = take_bytes(rt, s, &space[..n])?;
+    Ok(Read { state, more: true })
 }
 
-fn end(s: State) {
+fn end(rt: &HostRuntime, s: State) -> io::Result<()> {
     let mut out = [0u8; 32768];
     let len = finish(s, &mut out);
-    write_out(&out, len);
+    write_out(rt, &out, len)
 }
 
 // A proved loop has to end, and nothing says that the input does: no run uses up this count.
-fn main() {
+fn main(rt: HostRuntime) -> io::Result<()> {
+    let mut input = rt.reader();
     let mut state = begin();
     let mut turns = u64::MAX;
     while turns > 0 {
-        let read = read_some(state);
+        let read = read_some(&rt, &mut input, state)?;
         state = read.state;
         if read.more {
             turns -= 1;
@@ -92,5 +92,5 @@ fn main() {
             turns = 0;
         }
     }
-    end(state);
+    end(&rt, state)
 }
