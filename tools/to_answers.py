@@ -114,7 +114,7 @@ class Fn:
             base, fields = m.group(1), m.group(2)[1:].split(".")
             if base in ("tie", "lib", "native", "borrow", "mathlib", "Prim", "Rattle"):
                 return m.group(0)
-            fields = self.turn_fields(fields, chain, None)
+            fields = self.turn_fields(fields, chain, None) if base == "c" else [f for f in fields if f != "before"]
             got = []
             for f in fields:
                 m2 = re.fullmatch(r"t(\d+)", f)
@@ -127,8 +127,7 @@ class Fn:
                 if "-" in f and f.replace("-", "_") in self.own:
                     f = f.replace("-", "_")
                 got.append(f)
-            if base == "o" and got[:1] == ["decreases"]:
-                got[0] = "measured"
+            got = ["measured" if f == "decreases" else f for f in got]
             return ".".join([base] + got)
         return PATH.sub(one, text)
 

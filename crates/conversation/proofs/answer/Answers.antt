@@ -10,8 +10,8 @@ returns c = record {
   room = same_room c.put_response-len.ensures;
   goes = λ t k.
       let r = c.respond-r.ensures (next_line t) (c.next_line.ensures t k) in (
-        r.conversation-1,
-        answered_fills _ _ r.conversation-1 c.respond-r.result.response _ r.says
+        r.conversation,
+        answered_fills _ _ r.conversation c.respond-r.result.response _ r.says
             c.put_response-arg-1.given.0.1 c.put_response-len.ensures,
       );
 }

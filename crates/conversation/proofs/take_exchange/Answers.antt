@@ -10,4 +10,4 @@ pub returns : goal.returns
 unfolding answer_to
 returns c =
     λ u k. let a = c.args in
-    c.after_call.ensures u (change (edits.exchange-a a.place (requested_with a.range (number_of a.sigma)))) k c.exchange-a.ensures
+    c.after_call.ensures u (change (edits.exchange a.place (requested_with a.range (number_of a.sigma)))) k c.exchange-a.ensures

@@ -10,4 +10,4 @@ pub returns : goal.returns
 unfolding answer_to
 returns c =
     λ u k. let a = c.args in
-    c.after_call.ensures u (change (edits.put_in-a a.place (requested_with a.range (number_of a.sigma)))) k c.put_in-a.ensures
+    c.after_call.ensures u (change (edits.put_in a.place (requested_with a.range (number_of a.sigma)))) k c.put_in-a.ensures

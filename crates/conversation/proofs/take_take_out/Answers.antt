@@ -6,4 +6,4 @@ use Rattle.conversation.proofs.take_take_out.Goals as goal
 
 pub returns : goal.returns
 unfolding answer_to
-returns c = λ u k. let a = c.args in c.after_call.ensures u (change (edits.take_out-a a.place)) k c.take_out-a.ensures
+returns c = λ u k. let a = c.args in c.after_call.ensures u (change (edits.take_out a.place)) k c.take_out-a.ensures

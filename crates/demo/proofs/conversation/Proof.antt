@@ -7,7 +7,7 @@ use Rattle.demo.proofs.conversation.Tie as tie
 abbrev invariant-loop : tie.invariant-loop
 invariant-loop ranges distances most shown a₀ put₀ a put = Unit {0}
 
-abbrev decreases-loop : tie.decreases-loop
+abbrev decreases-loop : tie.measured-loop
 decreases-loop ranges distances most shown a₀ put₀ a put = most - put
 
 loop-holds : tie.Need-loop-init invariant-loop decreases-loop

@@ -89,7 +89,7 @@ module _
     approximation = approximation_of (converged c.fit.convergence) c.fit.point c.evaluation.posterior_information
 
     abbrev diagnostics : Diagnostics
-    diagnostics = diagnostics_of (length c.decreases.observations) c.fit c.evaluation approximation
+    diagnostics = diagnostics_of (length c.measured.observations) c.fit c.evaluation approximation
 
     approximation_same : approximation ≡ approximation_says a
     approximation_same =
@@ -100,36 +100,36 @@ module _
 
     diagnostics_same : diagnostics ≡ diagnostics_says d
     diagnostics_same =
-        diagnostics_by_lem (length c.decreases.observations) c.fit c.evaluation approximation
+        diagnostics_by_lem (length c.measured.observations) c.fit c.evaluation approximation
         ∙ ap (λ (m : ℕ). diagnostics_by m c.fit.convergence c.fit.evaluations c.evaluation approximation) h.has_observations
         ∙ ap (λ (f : Fit). diagnostics_by n f.convergence f.evaluations c.evaluation approximation) h.has_fit
         ∙ ap (λ (e : Evaluation). diagnostics_by n (convergence_of g.convergence) g.evaluations e approximation) h.has_evaluation
         ∙ ap (λ (x : Approximation). diagnostics_by n (convergence_of g.convergence) g.evaluations g.evaluation x) approximation_same
         ∙ sym ed
 
-    warnings_same : warnings_of c.decreases c.fit c.evaluation approximation diagnostics c.requested ≡ codes_of w
+    warnings_same : warnings_of c.measured c.fit c.evaluation approximation diagnostics c.requested ≡ codes_of w
     warnings_same =
-        warnings_by_lem c.decreases c.fit c.evaluation approximation diagnostics c.requested
-        ∙ ap (λ (f : Fit). warnings_by f.convergence c.evaluation c.decreases.priors approximation diagnostics.effective_degrees_of_freedom
-        (any (is_outside c.decreases.observations) c.requested)) h.has_fit
-        ∙ ap (λ (e : Evaluation). warnings_by (convergence_of g.convergence) e c.decreases.priors approximation diagnostics.effective_degrees_of_freedom
-        (any (is_outside c.decreases.observations) c.requested)) h.has_evaluation
+        warnings_by_lem c.measured c.fit c.evaluation approximation diagnostics c.requested
+        ∙ ap (λ (f : Fit). warnings_by f.convergence c.evaluation c.measured.priors approximation diagnostics.effective_degrees_of_freedom
+        (any (is_outside c.measured.observations) c.requested)) h.has_fit
+        ∙ ap (λ (e : Evaluation). warnings_by (convergence_of g.convergence) e c.measured.priors approximation diagnostics.effective_degrees_of_freedom
+        (any (is_outside c.measured.observations) c.requested)) h.has_evaluation
         ∙ ap (λ (q : TruingPriorsV1). warnings_by (convergence_of g.convergence) g.evaluation q approximation diagnostics.effective_degrees_of_freedom
-        (any (is_outside c.decreases.observations) c.requested)) h.has_priors
+        (any (is_outside c.measured.observations) c.requested)) h.has_priors
         ∙ ap (λ (x : Approximation). warnings_by (convergence_of g.convergence) g.evaluation priors x diagnostics.effective_degrees_of_freedom
-        (any (is_outside c.decreases.observations) c.requested)) approximation_same
+        (any (is_outside c.measured.observations) c.requested)) approximation_same
         ∙ ap (λ (x : Diagnostics). warnings_by (convergence_of g.convergence) g.evaluation priors (approximation_says a) x.effective_degrees_of_freedom
-        (any (is_outside c.decreases.observations) c.requested)) diagnostics_same
+        (any (is_outside c.measured.observations) c.requested)) diagnostics_same
         ∙ ap (λ (b : Bool). warnings_by (convergence_of g.convergence) g.evaluation priors (approximation_says a)
         (number_of d.effective_degrees_of_freedom) b) h.has_outside
         ∙ sym ew
 
     whole : report_of c
-        ≡ seen_of head (results_of c.decreases.observations c.predicted) entered
+        ≡ seen_of head (results_of c.measured.observations c.predicted) entered
         (zip_with (band_of (approximation_says a)) c.requested (rows_of c.band_rows))
     unfolding report_of
     whole =
-        same (results_of c.decreases.observations c.predicted) (ap (λ (f : Fit). f.point) h.has_fit)
+        same (results_of c.measured.observations c.predicted) (ap (λ (f : Fit). f.point) h.has_fit)
         (ap (λ (f : Fit). f.iterations) h.has_fit ∙ sym ek)
         (ap (λ (f : Fit). converged f.convergence) h.has_fit ∙ sym ev) h.has_priors h.has_baseline diagnostics_same approximation_same
         (ap (λ (x : Approximation). zip_with (band_of x) c.requested (rows_of c.band_rows)) approximation_same) warnings_same

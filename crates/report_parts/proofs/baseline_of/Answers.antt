@@ -23,6 +23,6 @@ returns c =
     let s = a.shots in
     ap (λ (x : Float). some (record { entered = a.entered; chi_square = x; observations = results_at s a.drops }))
     (c.chi_square-chi_square.ensures
-    ∙ ap (λ (l : List Float). chi_square_of (observations_of s.ranges s.drops-1 s.sigmas) l) c.first_places.ensures
+    ∙ ap (λ (l : List Float). chi_square_of (observations_of s.ranges s.drops s.sigmas) l) c.first_places.ensures
     ∙ chi_square_first s a.drops)
     ∙ sym (ap (λ (t : Bool). baseline_at a.shots a.entered a.drops t) (not-false a.present c.if-not-present.false-raw))

@@ -9,11 +9,11 @@ pub returns : goal.returns
 returns c =
     let r = c.args.r in
     subst (λ (o : Opening). Opened o c.«open».result)
-    (λ i. opening_of r.entered-1
+    (λ i. opening_of r.entered
     (c.first_places.ensures i)
     (c.first_places-2.ensures i)
     (c.first_places-3.ensures i)
-    r.priors-1
+    r.priors
     (c.first_places-4.ensures i)
     (c.first_places-5.ensures i)
     (c.first_flags.ensures i))

@@ -6,7 +6,7 @@ use Rattle.root_list.proofs.main.Tie as tie
 abbrev invariant-loop : tie.invariant-loop
 invariant-loop turns₀ turns = Unit {0}
 
-abbrev decreases-loop : tie.decreases-loop
+abbrev decreases-loop : tie.measured-loop
 decreases-loop turns₀ turns = turns
 
 loop-holds : tie.Need-loop-init invariant-loop decreases-loop

@@ -6,7 +6,7 @@ use Rattle.session_bench.proofs.ranges_from.Tie as tie
 abbrev invariant-loop : tie.invariant-loop
 invariant-loop first step ranges₀ range₀ i₀ ranges range i = Unit {0}
 
-abbrev decreases-loop : tie.decreases-loop
+abbrev decreases-loop : tie.measured-loop
 decreases-loop first step ranges₀ range₀ i₀ ranges range i = 64 - i
 
 loop-holds : tie.Need-loop-init invariant-loop decreases-loop

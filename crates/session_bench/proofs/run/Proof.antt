@@ -7,7 +7,7 @@ abbrev invariant-loop : tie.invariant-loop
 invariant-loop out solver writes ranges measured distances a₀ drops₀ missing₀ left₀ a drops missing left =
     Unit {0}
 
-abbrev decreases-loop : tie.decreases-loop
+abbrev decreases-loop : tie.measured-loop
 decreases-loop out solver writes ranges measured distances a₀ drops₀ missing₀ left₀ a drops missing left =
     left
 

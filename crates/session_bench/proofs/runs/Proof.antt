@@ -7,7 +7,7 @@ abbrev invariant-loop : tie.invariant-loop
 invariant-loop out₀ times n m solver writes ranges distances drops k questions₀ bytes₀ last₀ left₀ out questions bytes last left =
     Unit {0}
 
-abbrev decreases-loop : tie.decreases-loop
+abbrev decreases-loop : tie.measured-loop
 decreases-loop out₀ times n m solver writes ranges distances drops k questions₀ bytes₀ last₀ left₀ out questions bytes last left =
     left
 

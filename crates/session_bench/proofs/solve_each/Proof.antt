@@ -6,7 +6,7 @@ use Rattle.session_bench.proofs.solve_each.Tie as tie
 abbrev invariant-loop : tie.invariant-loop
 invariant-loop drops₀ ranges mv bc i₀ drops i = Unit {0}
 
-abbrev decreases-loop : tie.decreases-loop
+abbrev decreases-loop : tie.measured-loop
 decreases-loop drops₀ ranges mv bc i₀ drops i = 64 - i
 
 loop-holds : tie.Need-loop-init invariant-loop decreases-loop

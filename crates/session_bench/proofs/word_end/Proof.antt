@@ -6,7 +6,7 @@ use Rattle.session_bench.proofs.word_end.Tie as tie
 abbrev invariant-loop : tie.invariant-loop
 invariant-loop s from i₀ i = Unit {0}
 
-abbrev decreases-loop : tie.decreases-loop
+abbrev decreases-loop : tie.measured-loop
 decreases-loop s from i₀ i = length s - i
 
 loop-holds : tie.Need-loop-init invariant-loop decreases-loop

@@ -6,7 +6,7 @@ use Rattle.session_bench.proofs.word_start.Tie as tie
 abbrev invariant-loop : tie.invariant-loop
 invariant-loop s k from₀ left₀ from left = Unit {0}
 
-abbrev decreases-loop : tie.decreases-loop
+abbrev decreases-loop : tie.measured-loop
 decreases-loop s k from₀ left₀ from left = left
 
 loop-holds : tie.Need-loop-init invariant-loop decreases-loop

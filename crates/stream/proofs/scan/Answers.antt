@@ -26,7 +26,7 @@ pub returns-then-c-eq10 : goal.returns-then-c-eq10
 returns-then-c-eq10 c =
     let a = c.args in
     let l = c.loop-i in
-    scan_ends a.bytes.now a.r a.at (reader_in l.word-1 l.len l.first l.begun l.line-1) l.i l.invariant
+    scan_ends a.bytes.now a.r a.at (reader_in l.word l.len l.first l.begun l.line) l.i l.invariant
     c.loop-i-test.true c.if-c-eq10.true
 
 pub loop-i-smaller-then-c-eq32 : goal.loop-i-smaller-then-c-eq32
@@ -36,11 +36,11 @@ pub loop-i-preserved-then-c-eq32 : goal.loop-i-preserved-then-c-eq32
 loop-i-preserved-then-c-eq32 c =
     let a = c.args in
     let l = c.loop-i in
-    scan_on a.bytes.now a.r a.at (reader_in l.word-1 l.len l.first l.begun l.line-1) l.i l.invariant c.loop-i-test.true _
+    scan_on a.bytes.now a.r a.at (reader_in l.word l.len l.first l.begun l.line) l.i l.invariant c.loop-i-test.true _
     c.if-c-eq10.false (λ s k.
-    reads_blank (reader_in l.word-1 l.len l.first l.begun l.line-1) s k (get_or a.bytes.now l.i 0) c.take-line.result
+    reads_blank (reader_in l.word l.len l.first l.begun l.line) s k (get_or a.bytes.now l.i 0) c.take-line.result
     (eq-eqb (get_or a.bytes.now l.i 0) 32 c.if-c-eq32.true)
-    (c.take-line.ensures ∙ ap (λ (w : List ℕ). take_of l.line-1 w l.first false) c.word_of.ensures))
+    (c.take-line.ensures ∙ ap (λ (w : List ℕ). take_of l.line w l.first false) c.word_of.ensures))
 
 pub bounds-word-len : goal.bounds-word-len
 bounds-word-len c = omega arith
@@ -55,9 +55,9 @@ pub loop-i-preserved-then-len-lt32 : goal.loop-i-preserved-then-len-lt32
 loop-i-preserved-then-len-lt32 c =
     let a = c.args in
     let l = c.loop-i in
-    scan_on a.bytes.now a.r a.at (reader_in l.word-1 l.len l.first l.begun l.line-1) l.i l.invariant c.loop-i-test.true _
+    scan_on a.bytes.now a.r a.at (reader_in l.word l.len l.first l.begun l.line) l.i l.invariant c.loop-i-test.true _
     c.if-c-eq10.false (λ s k.
-    reads_more (reader_in l.word-1 l.len l.first l.begun l.line-1) s k (get_or a.bytes.now l.i 0)
+    reads_more (reader_in l.word l.len l.first l.begun l.line) s k (get_or a.bytes.now l.i 0)
     (ne_eqb (get_or a.bytes.now l.i 0) 32 c.if-c-eq32.false) c.if-len-lt32.true)
 
 pub loop-i-smaller : goal.loop-i-smaller
@@ -67,13 +67,13 @@ pub loop-i-preserved : goal.loop-i-preserved
 loop-i-preserved c =
     let a = c.args in
     let l = c.loop-i in
-    scan_on a.bytes.now a.r a.at (reader_in l.word-1 l.len l.first l.begun l.line-1) l.i l.invariant c.loop-i-test.true _
+    scan_on a.bytes.now a.r a.at (reader_in l.word l.len l.first l.begun l.line) l.i l.invariant c.loop-i-test.true _
     c.if-c-eq10.false (λ s k.
-    reads_full (reader_in l.word-1 l.len l.first l.begun l.line-1) s k (get_or a.bytes.now l.i 0)
+    reads_full (reader_in l.word l.len l.first l.begun l.line) s k (get_or a.bytes.now l.i 0)
     (ne_eqb (get_or a.bytes.now l.i 0) 32 c.if-c-eq32.false) c.if-len-lt32.false)
 
 pub returns : goal.returns
 returns c =
     let a = c.args in
     let l = c.loop-i in
-    scan_stops a.bytes.now a.r a.at (reader_in l.word-1 l.len l.first l.begun l.line-1) l.i l.invariant c.loop-i-test.false
+    scan_stops a.bytes.now a.r a.at (reader_in l.word l.len l.first l.begun l.line) l.i l.invariant c.loop-i-test.false

@@ -9,7 +9,7 @@ use Rattle.truing.proofs.take_bytes.Tie as tie
 abbrev invariant-loop : tie.invariant-loop
 invariant-loop bytes out₀ state₀ at₀ out state at = Unit {0}
 
-abbrev decreases-loop : tie.decreases-loop
+abbrev decreases-loop : tie.measured-loop
 decreases-loop bytes out₀ state₀ at₀ out state at = length bytes - at
 
 loop-holds : tie.Need-loop-init invariant-loop decreases-loop

@@ -7,7 +7,7 @@ use Rattle.demo.proofs.lot.measured.Tie as tie
 abbrev invariant-loop : tie.invariant-loop
 invariant-loop deviations drops₀ i₀ drops i = Unit {0}
 
-abbrev decreases-loop : tie.decreases-loop
+abbrev decreases-loop : tie.measured-loop
 decreases-loop deviations drops₀ i₀ drops i = 12 - i
 
 slice-aggregate-fill : tie.Need-slice-aggregate-fill invariant-loop decreases-loop

@@ -7,7 +7,7 @@ use Rattle.demo.proofs.meaning.say_results.Tie as tie
 abbrev invariant-loop : tie.invariant-loop
 invariant-loop s n i₀ i = Unit {0}
 
-abbrev decreases-loop : tie.decreases-loop
+abbrev decreases-loop : tie.measured-loop
 decreases-loop s n i₀ i = n - i
 
 loop-holds : tie.Need-loop-init invariant-loop decreases-loop

@@ -7,7 +7,7 @@ use Rattle.demo.proofs.protocol.say_distances.Tie as tie
 abbrev invariant-loop : tie.invariant-loop
 invariant-loop lot i₀ i = Unit {0}
 
-abbrev decreases-loop : tie.decreases-loop
+abbrev decreases-loop : tie.measured-loop
 decreases-loop lot i₀ i = 3 - i
 
 loop-holds : tie.Need-loop-init invariant-loop decreases-loop

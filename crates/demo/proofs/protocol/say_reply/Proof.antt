@@ -8,7 +8,7 @@ use Rattle.demo.proofs.protocol.say_reply.Tie as tie
 abbrev invariant-loop : tie.invariant-loop
 invariant-loop drops missing i₀ t5 i = Unit {0}
 
-abbrev decreases-loop : tie.decreases-loop
+abbrev decreases-loop : tie.measured-loop
 decreases-loop drops missing i₀ t5 i = length drops - i
 
 slice-aggregate-text : tie.Need-slice-aggregate-text invariant-loop decreases-loop
