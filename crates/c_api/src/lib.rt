@@ -1,4 +1,4 @@
-// The functions that C and Rust link.
+// The functions that C and Rust link, by the exports of `c_api_c`.
 #![tactic(auto)]
 ghost use Rattle.std.specs.Prelude.{◌≡◌, ◌∷◌, [], ◌+◌, ◌*◌, ◌≤◌, ◌<◌, length, replicate};
 ghost use Rattle.root.specs.Root.{root_of};
@@ -78,8 +78,7 @@ fn put_double(out: &mut [u8], at: usize, x: f64)
 // ---- the functions
 
 // The square root of a double, rounded once to the nearest.
-#[unsafe(no_mangle)]
-pub extern "C" fn truing_root(x: f64) -> f64
+pub fn truing_root(x: f64) -> f64
     ensures { result ≡ root_of x }
 {
     root::root(x)
@@ -135,8 +134,7 @@ fn sum(priors: TruingPriorsV1, p: Point, n: usize, observations: &[u8], replies:
 // speed's, bit 1 the coefficient's.
 // 0: the sum's 8 bytes stand at the start of `out`. Refused, and no byte written: 1, the observations are no whole
 // records or more than 64; 2, the replies are not as many as they; 3, `out` is shorter than 8 bytes.
-#[unsafe(no_mangle)]
-pub extern "C" fn truing_objective_sum(
+pub fn truing_objective_sum(
     speed: f64,
     coefficient: f64,
     observations: &[u8],
@@ -189,8 +187,7 @@ fn put_inverse(out: &mut [u8], a00: f64, a01: f64, a11: f64, condition: f64)
 // The inverse of a symmetric matrix of two rows.
 // 0: the inverse's a00, a01, a11 and the condition number, 32 bytes, stand at the start of `out`. Refused, and no byte
 // written: 3, `out` is shorter than 32 bytes; 1, NonFiniteInformation; 2, RankDeficientInformation. 3 goes before the others.
-#[unsafe(no_mangle)]
-pub extern "C" fn truing_inverse(a00: f64, a01: f64, a11: f64, out: &mut [u8]) -> u32
+pub fn truing_inverse(a00: f64, a01: f64, a11: f64, out: &mut [u8]) -> u32
     ensures value { result ≡ (inverse_outcome (record { a00 = a00; a01 = a01; a11 = a11 }) out.old).code }
     ensures out_after { out.new ≡ (inverse_outcome (record { a00 = a00; a01 = a01; a11 = a11 }) out.old).out }
 {

@@ -14,5 +14,5 @@ use Rattle.c_api.proofs.column.Given as goal
 abbrev pub invariant-loop-i : goal.invariant-loop-i
 invariant-loop-i l = (l.i ≤ l.n) × (length l.a ≡ 64) × (l.a ≡ laid_over (take l.i (column_of l.stride l.offset l.n l.bytes)) (replicate 64 zero64))
 
-abbrev pub decreases-loop-i : goal.measured-loop-i
+abbrev pub decreases-loop-i : goal.decreases-loop-i
 decreases-loop-i l = l.n - l.i

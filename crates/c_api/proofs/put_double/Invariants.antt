@@ -14,5 +14,5 @@ abbrev pub invariant-loop-left : goal.invariant-loop-left
 invariant-loop-left l =
     (l.i + l.left ≡ l.at + 8) × (length l.out ≡ length l.initial.out) × (put_at l.at (double_bytes l.x) l.initial.out ≡ put_at l.i (lowest l.left l.rest) l.out)
 
-abbrev pub decreases-loop-left : goal.measured-loop-left
+abbrev pub decreases-loop-left : goal.decreases-loop-left
 decreases-loop-left l = l.left

@@ -20,5 +20,5 @@ invariant-loop-i l =
     (l.n ≡ min (length (observations_of l.ranges l.drops l.sigmas)) (length l.predicted)) × (l.n ≤ length l.drops) × (l.n ≤ length l.sigmas) × (l.i ≤ l.n)
     × (l.sum ≡ fold_pairs with_shot zero64 (take l.i (observations_of l.ranges l.drops l.sigmas)) (take l.i l.predicted))
 
-abbrev pub decreases-loop-i : goal.measured-loop-i
+abbrev pub decreases-loop-i : goal.decreases-loop-i
 decreases-loop-i l = l.n - l.i

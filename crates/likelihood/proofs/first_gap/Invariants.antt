@@ -16,5 +16,5 @@ use Rattle.likelihood.proofs.first_gap.Given as goal
 abbrev pub invariant-loop-i : goal.invariant-loop-i
 invariant-loop-i l = (l.n ≡ min (length l.drops) (length l.missing)) × (l.i ≤ l.n) × (first_at is_missing (take l.i (entries_of l.drops l.missing)) ≡ 0)
 
-abbrev pub decreases-loop-i : goal.measured-loop-i
+abbrev pub decreases-loop-i : goal.decreases-loop-i
 decreases-loop-i l = l.n - l.i

@@ -19,5 +19,5 @@ invariant-loop-i l =
     (l.n ≡ min (length l.initial.out) (min (length l.drops) (length l.missing))) × (l.i ≤ l.n) × (length l.out ≡ length l.initial.out)
     × (l.out ≡ laid_over (take l.i (map drop_or0 (entries_of l.drops l.missing))) l.initial.out)
 
-abbrev pub decreases-loop-i : goal.measured-loop-i
+abbrev pub decreases-loop-i : goal.decreases-loop-i
 decreases-loop-i l = l.n - l.i

@@ -23,5 +23,5 @@ invariant-loop-i l =
     × (l.n ≤ length l.predicted) × (l.n ≤ length l.by_mv) × (l.n ≤ length l.by_bc) × (l.i ≤ l.n)
     × (l.sums ≡ fold_pairs (with_row l.p) no_sums (take l.i (observations_of l.ranges l.drops l.sigmas)) (take l.i (zip_with3 row_of l.predicted l.by_mv l.by_bc)))
 
-abbrev pub decreases-loop-i : goal.measured-loop-i
+abbrev pub decreases-loop-i : goal.decreases-loop-i
 decreases-loop-i l = l.n - l.i

@@ -10,5 +10,5 @@ use Rattle.map_fit.proofs.next_trial.Given as goal
 abbrev pub invariant-loop-left_now : goal.invariant-loop-left_now
 invariant-loop-left_now l = next_trial_of l.p l.e l.left_now l.damping_now ≡ next_trial_of l.p l.e l.left l.damping
 
-abbrev pub decreases-loop-left_now : goal.measured-loop-left_now
+abbrev pub decreases-loop-left_now : goal.decreases-loop-left_now
 decreases-loop-left_now l = l.left_now

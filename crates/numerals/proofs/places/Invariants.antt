@@ -11,5 +11,5 @@ use Rattle.numerals.proofs.places.Given as goal
 abbrev pub invariant-loop-more : goal.invariant-loop-more
 invariant-loop-more l = (l.more ≤ 19) × (places_of 19 l.n ≡ l.more + places_of (19 - l.more) l.rest)
 
-abbrev pub decreases-loop-more : goal.measured-loop-more
+abbrev pub decreases-loop-more : goal.decreases-loop-more
 decreases-loop-more l = 19 - l.more

@@ -14,5 +14,5 @@ abbrev pub invariant-loop-i : goal.invariant-loop-i
 invariant-loop-i l =
     (length l.out ≡ length l.initial.out) × (l.i ≤ length l.out) × (digits_of l.base l.k l.n ++ drop l.k l.initial.out ≡ digits_of l.base l.i l.rest ++ drop l.i l.out)
 
-abbrev pub decreases-loop-i : goal.measured-loop-i
+abbrev pub decreases-loop-i : goal.decreases-loop-i
 decreases-loop-i l = l.i

@@ -13,5 +13,5 @@ use Rattle.objective_mesh.proofs.look.Given as goal
 abbrev pub invariant-loop-j : goal.invariant-loop-j
 invariant-loop-j l = mesh.look l.radius l.centre (drop l.j (mesh.directions l.axis)) ≡ mesh.look l.radius l.centre (drop l.from (mesh.directions l.axis))
 
-abbrev pub decreases-loop-j : goal.measured-loop-j
+abbrev pub decreases-loop-j : goal.decreases-loop-j
 decreases-loop-j l = 8 - l.j

@@ -12,6 +12,6 @@ abbrev pub invariant-loop-left : goal.invariant-loop-left
 invariant-loop-left l =
     mesh.ungained l.axis l.radius_now l.left l.centre l.current l.best_now l.evaluations ≡ mesh.ungained l.axis l.radius l.smaller l.centre l.current l.best l.evaluations
 
-abbrev pub decreases-loop-left : goal.measured-loop-left
+abbrev pub decreases-loop-left : goal.decreases-loop-left
 decreases-loop-left l =
     l.left

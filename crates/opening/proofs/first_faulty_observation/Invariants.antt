@@ -19,5 +19,5 @@ invariant-loop-i l =
     (l.i ≤ length l.ranges)
     × (first_at faulty_observation (observations_of l.ranges l.drops l.sigmas) ≡ from l.i (first_at faulty_observation (drop l.i (observations_of l.ranges l.drops l.sigmas))))
 
-abbrev pub decreases-loop-i : goal.measured-loop-i
+abbrev pub decreases-loop-i : goal.decreases-loop-i
 decreases-loop-i l = length l.ranges - l.i

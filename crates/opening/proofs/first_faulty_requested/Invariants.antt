@@ -19,5 +19,5 @@ invariant-loop-i l =
     (l.i ≤ length l.distances)
     × (first_at faulty_requested (requested_from l.distances l.future l.given) ≡ from l.i (first_at faulty_requested (drop l.i (requested_from l.distances l.future l.given))))
 
-abbrev pub decreases-loop-i : goal.measured-loop-i
+abbrev pub decreases-loop-i : goal.decreases-loop-i
 decreases-loop-i l = length l.distances - l.i

@@ -15,5 +15,5 @@ use Rattle.point_mass.proofs.fly.Given as goal
 abbrev pub invariant-loop-left : goal.invariant-loop-left
 invariant-loop-left l = flight l.left l.k l.x l.s ≡ flight 4096 l.k l.x l.initial.s
 
-abbrev pub decreases-loop-left : goal.measured-loop-left
+abbrev pub decreases-loop-left : goal.decreases-loop-left
 decreases-loop-left l = l.left

@@ -14,5 +14,5 @@ invariant-loop-i l =
     (l.n ≡ min (length l.observations) (length l.predicted)) × (l.i ≤ l.n)
     × (l.sum ≡ fold_pairs with_shot zero64 (take l.i (map observation_in l.observations)) (take l.i l.predicted))
 
-abbrev pub decreases-loop-i : goal.measured-loop-i
+abbrev pub decreases-loop-i : goal.decreases-loop-i
 decreases-loop-i l = l.n - l.i

@@ -17,5 +17,5 @@ pub record Digits (m q r p k : ℕ) : Type 0 where
 abbrev pub invariant-loop-k : goal.invariant-loop-k
 invariant-loop-k l = Digits l.m l.q l.r l.p l.k
 
-abbrev pub decreases-loop-k : goal.measured-loop-k
+abbrev pub decreases-loop-k : goal.decreases-loop-k
 decreases-loop-k l = l.k

@@ -10,5 +10,5 @@ use Rattle.root.proofs.normalized.Given as goal
 abbrev pub invariant-loop-m : goal.invariant-loop-m
 invariant-loop-m l = (l.m * 2 ^ l.e ≡ l.t * 2 ^ 1074) × (2 ^ (1074 - l.e) ≤ l.m) × (l.e ≤ 1074) × (l.m < 2 ^ 53)
 
-abbrev pub decreases-loop-m : goal.measured-loop-m
+abbrev pub decreases-loop-m : goal.decreases-loop-m
 decreases-loop-m l = l.e

@@ -15,5 +15,5 @@ use Rattle.warnings.proofs.any_outside.Given as goal
 abbrev pub invariant-loop-i : goal.invariant-loop-i
 invariant-loop-i l = (l.i ≤ length l.ranges) × (any (outside_of l.min l.max) l.ranges ≡ any (outside_of l.min l.max) (drop l.i l.ranges))
 
-abbrev pub decreases-loop-i : goal.measured-loop-i
+abbrev pub decreases-loop-i : goal.decreases-loop-i
 decreases-loop-i l = length l.ranges - l.i

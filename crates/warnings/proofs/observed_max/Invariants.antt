@@ -15,5 +15,5 @@ use Rattle.warnings.proofs.observed_max.Given as goal
 abbrev pub invariant-loop-i : goal.invariant-loop-i
 invariant-loop-i l = (l.i ≤ length l.ranges) × (foldl farther l.largest (drop l.i l.ranges) ≡ farthest_of l.ranges)
 
-abbrev pub decreases-loop-i : goal.measured-loop-i
+abbrev pub decreases-loop-i : goal.decreases-loop-i
 decreases-loop-i l = length l.ranges - l.i

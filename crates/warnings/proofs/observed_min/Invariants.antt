@@ -15,5 +15,5 @@ use Rattle.warnings.proofs.observed_min.Given as goal
 abbrev pub invariant-loop-i : goal.invariant-loop-i
 invariant-loop-i l = (l.i ≤ length l.ranges) × (foldl nearer l.least (drop l.i l.ranges) ≡ nearest_of l.ranges)
 
-abbrev pub decreases-loop-i : goal.measured-loop-i
+abbrev pub decreases-loop-i : goal.decreases-loop-i
 decreases-loop-i l = length l.ranges - l.i

@@ -13,5 +13,5 @@ use Rattle.words.proofs.find.Given as goal
 abbrev pub invariant-loop-k : goal.invariant-loop-k
 invariant-loop-k l = (l.k ≤ length words) × (place_of l.s ≡ l.k + ahead l.s l.k)
 
-abbrev pub decreases-loop-k : goal.measured-loop-k
+abbrev pub decreases-loop-k : goal.decreases-loop-k
 decreases-loop-k l = length words - l.k

@@ -15,5 +15,5 @@ use Rattle.words.proofs.is_word.Given as goal
 abbrev pub invariant-loop-i : goal.invariant-loop-i
 invariant-loop-i l = (l.i ≤ length l.s) × (row_is l.s (padded (word_at l.k)) ≡ row_is (drop l.i l.s) (drop l.i (padded (word_at l.k))))
 
-abbrev pub decreases-loop-i : goal.measured-loop-i
+abbrev pub decreases-loop-i : goal.decreases-loop-i
 decreases-loop-i l = length l.s - l.i

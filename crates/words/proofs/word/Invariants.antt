@@ -12,5 +12,5 @@ use Rattle.words.proofs.word.Given as goal
 abbrev pub invariant-loop-i : goal.invariant-loop-i
 invariant-loop-i l = (l.i ≤ 32) × (l.i ≤ length (word_at l.k)) × (l.out ≡ filled (word_at l.k) l.i)
 
-abbrev pub decreases-loop-i : goal.measured-loop-i
+abbrev pub decreases-loop-i : goal.decreases-loop-i
 decreases-loop-i l = 32 - l.i
