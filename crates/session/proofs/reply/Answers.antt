@@ -23,17 +23,17 @@ returns c =
     let s = a.s in
     let row = c.plan_of-plan.result.row in
     let x : Parts = record {
-      c = c.lay_predicted.new.out;
+      nominal = c.lay_predicted.new.out;
       by_mv = c.lay_by_mv.new.out;
       by_bc = c.lay_by_bc.new.out;
-      c = c.gap_after-gap.result;
+      gap = c.gap_after-gap.result;
       predicted = c.keep_if.new.out;
       baseline = c.lay_if.new.out;
-      c = c.baseline_if-has_baseline.result;
-      c = c.evaluation_if-e.result;
-      c = c.first_gap-found.result;
-      c = c.sum_if-sum.result;
-      c = c.has_wanted-requested.result;
+      has = c.baseline_if-has_baseline.result;
+      evaluation = c.evaluation_if-e.result;
+      found = c.first_gap-found.result;
+      sum = c.sum_if-sum.result;
+      requested = c.has_wanted-requested.result;
     } in
     replied_taken s a.reply.now a.missing.now c.declined_by-number.result c.counted-asked.result x c.advance-next.result
     (number_is s a.reply.now a.missing.now c.plan_of-plan.result c.is_within-within.result c.size_for-n.result
