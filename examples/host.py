@@ -1,7 +1,7 @@
 #!/usr/bin/env python3
 """A host of the program `truing`: holds a conversation over two pipes, with a toy formula in place of a flight solver.
 
-usage: examples/host.py [PROGRAM]        (PROGRAM: target/bin/truing, which `rt check truing` makes)
+usage: examples/host.py [PROGRAM]        (PROGRAM: target/bin/truing, which `scripts/build truing` makes)
 
 It fits five shots, prints the speed and the coefficient with their intervals and the warnings, then
 asks for a band more (an edit that is taken) and for one at a place that there is not (a refusal).
@@ -95,7 +95,7 @@ def main():
         sys.exit("%s: takes one program; --help says more" % sys.argv[0])
     program = sys.argv[1] if len(sys.argv) > 1 else "target/bin/truing"
     if not os.access(program, os.X_OK) or os.path.isdir(program):
-        sys.exit("%s is missing: 'rt check truing' makes target/bin/truing" % program)
+        sys.exit("%s is missing: 'scripts/build truing' makes target/bin/truing" % program)
     shots = [100.0, 200.0, 300.0, 400.0, 500.0]
     truing = Truing(program, shots, [350.0])
     truing.say("(entered %s %s)" % (double(2500.0), double(0.4)))

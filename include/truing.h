@@ -1,4 +1,4 @@
-/* The truing estimator's functions for C, on x86-64 Linux: `rt staticlib c_api` proves them and writes the archive
+/* The truing estimator's functions for C, on x86-64 Linux: `scripts/build c_api` proves them and writes the archive
    target/staticlib/libc_api.a. Their contracts are in crates/c_api/src/lib.rt, in the words of
    crates/c_api/specs/Desk.antt.
 

@@ -1,4 +1,4 @@
-//! Links the archive that `rt staticlib c_api` writes.
+//! Links the archive that `scripts/build c_api` writes.
 
 fn main() {
     let root = concat!(env!("CARGO_MANIFEST_DIR"), "/../../target/staticlib");
