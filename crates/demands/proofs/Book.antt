@@ -28,7 +28,7 @@ use Rattle.demands.specs.Calls.{declines, takes, taking_reply, taking_refusal, t
 use Rattle.demands.specs.Calls.{after_call, due, due_to}
 use Rattle.demands.specs.Book.{size_of, heard, Where, in_run, idle, in_edit, Book, is_report, opened, reports, ruled_reply, ruled_refusal, ruled_edit, ruled}
 use Rattle.demands.specs.Book.{stands_by, settled, edit_heard, run_heard, reply_heard, call_heard, booked, Question, about_of, question_in, Trail, replies_with}
-use Rattle.demands.specs.Book.{begun, followed, Replies, Comes, FromSolver, said_by, report_from, Ends, Edits, standingReport, Holds}
+use Rattle.demands.specs.Book.{begun, followed, Replies, Comes, FromSolver, said_by, report_from, Ends, Edits, standing_report, Holds}
 
 -- ---- in general
 
@@ -56,9 +56,9 @@ end_of (refuses n i) = none
 same_end : {c d : Finished} → ends c ≡ ends d → c ≡ d
 same_end e = cc
 
-report-end : (f : Outcome Finished) → report_by (end_of f) ≡ report_from none f
-report-end (ends c) = refl
-report-end (refuses n i) = refl
+report_end : (f : Outcome Finished) → report_by (end_of f) ≡ report_from none f
+report_end (ends c) = refl
+report_end (refuses n i) = refl
 
 -- ---- one reply more
 
@@ -211,7 +211,7 @@ module _ (σ : Solver) (o : Opening) where
   reads_so kept left list asked m idle s = ap report_by s.finished ∙ by (reports σ o o.requested)
     where
       by : (b : Bool) → report_by (cond b (end_of (fresh σ o list)) none) ≡ cond b (report_from none (fresh σ o list)) none
-      by true = report-end (fresh σ o list)
+      by true = report_end (fresh σ o list)
       by false = refl
   reads_so kept left list asked m (in_edit n e) s = ap report_by (open_none n kept left s.1.hears)
 
@@ -423,7 +423,7 @@ agrees_first σ o = record {
 }
 
 -- the report that stands by the definition stands by the book
-pub stands_by_lem : (σ : Solver) (o : Opening) (t : At) (u : Trail) → Agrees σ o t u → report_by (finished_at o t) ≡ standingReport σ o u.book
+pub stands_by_lem : (σ : Solver) (o : Opening) (t : At) (u : Trail) → Agrees σ o t u → report_by (finished_at o t) ≡ standing_report σ o u.book
 stands_by_lem σ o t u a = reads_so σ o (kept_by t.last) (rest_at o t) u.book.list u.asked u.replies u.book.at a.is
 
 pub opened_stops : (σ : Solver) (o : Opening) → (heard o (head (whole o)) ≡ none) ↔ (0 ≡ questions (host_of σ o) (whole o))
@@ -431,7 +431,7 @@ opened_stops σ o = stops_so σ o (host_of σ o) (whole o) 0 _ (first_goes σ o)
 
 pub agrees_opened : (σ : Solver) (o : Opening)
     → (heard o (head (whole o)) ≡ none → Ends (fresh σ o o.requested) none (head (whole o)) (λ p. report_by (finished_at o first) ≡ p))
-    × (report_by (finished_at o first) ≡ standingReport σ o (opened o (heard o (head (whole o)))))
+    × (report_by (finished_at o first) ≡ standing_report σ o (opened o (heard o (head (whole o)))))
 agrees_opened σ o = (
   ends_so σ o (host_of σ o) none (whole o) (fresh σ o o.requested) none (first_goes σ o).plays refl,
   stands_by_lem σ o first (begun o (head (whole o)))
@@ -503,7 +503,7 @@ module _ (σ : Solver) (o : Opening) (t : At) (u : Trail) (a : Agrees σ o t u) 
             as_taken (EndsSo (fresh σ o (edited f list)) was) e
             (ends_so σ o (host_of σ (with_list o list)) kept left (fresh σ o (edited f list)) was g.plays
             (ap report_by g.was_kept ∙ ap (report_from none) (sym g.before)));
-        stands = stands_by_lem σ o (after_call o t x) then next ∙ ap (standingReport σ o) (sym b);
+        stands = stands_by_lem σ o (after_call o t x) then next ∙ ap (standing_report σ o) (sym b);
         reported = λ h.
             let is : stands_by σ o then.book.at ≡ true = ap (λ (c : Book). stands_by σ o c.at) (sym b) ∙ h in
             ap (λ (c : Book). reports σ o c.list) b

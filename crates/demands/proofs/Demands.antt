@@ -39,7 +39,7 @@ use Rattle.editing.specs.declared.Answer.{Answer}
 use Rattle.demands.specs.Calls.{Call, reply, refuse_point, change, resume, Editing, At, first, rest_by, rest_at, kept_by, finished_by, finished_at, report_by}
 use Rattle.demands.specs.Calls.{Taking, declines, takes, taking_reply, taking_refusal, taking_edit, stance, with_reply, with_edit, after_taken, unless_declined}
 use Rattle.demands.specs.Calls.{after_call, due, due_to}
-use Rattle.demands.specs.Book.{heard, opened, ruled, Ends, Edits, standingReport as standsWith, Holds, Trail, begun, followed, FromSolver}
+use Rattle.demands.specs.Book.{heard, opened, ruled, Ends, Edits, standing_report as standsWith, Holds, Trail, begun, followed, FromSolver}
 use Rattle.demands.specs.Demands as stated
 use Rattle.demands.specs.Demands.{Made, Meets, Chained, Throughout, ReadsAs, checked, OpensProperly, counted_said, most_of, EndsProperly, Demand1}
 use Rattle.demands.specs.Demands.{OpensAsDefined, AsDefined, Demand2, Changes, edited_from, next_trail, AllFrom, OpensFresh, EndsFresh, before_edit, Along}

@@ -192,8 +192,8 @@ Edits b (change f) e = f ≡ e
 
 module _ (σ : Solver) (o : Opening) where
   -- the report that stands, by the book
-  abbrev pub standingReport : Book → Option Report
-  standingReport b = cond (stands_by σ o b.at) (report_from none (fresh σ o b.list)) none
+  abbrev pub standing_report : Book → Option Report
+  standing_report b = cond (stands_by σ o b.at) (report_from none (fresh σ o b.list)) none
 
   -- where a call found this trail, this was said to it, and this is what is read then
   pub record Holds (u : Trail) (x : Call) (said : Step) (Reads : Option Report → Type 0) : Type 0 where
@@ -209,5 +209,5 @@ module _ (σ : Solver) (o : Opening) where
     pub edit_ends : (e : Edit) → Edits u.book x e → ruled σ o u.book x ≡ takes → heard o said ≡ none
         → Ends (fresh σ o (edited e u.book.list)) (report_from none (fresh σ o u.book.list)) said Reads
     -- a report that stands is that of a fresh run with the book's list
-    pub stands : Reads (standingReport (booked σ o u.book x (heard o said)))
+    pub stands : Reads (standing_report (booked σ o u.book x (heard o said)))
     pub reported : stands_by σ o (booked σ o u.book x (heard o said)).at ≡ true → reports σ o (booked σ o u.book x (heard o said)).list ≡ true

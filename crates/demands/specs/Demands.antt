@@ -26,7 +26,7 @@ use Rattle.editing.specs.declared.Session.{Session}
 use Rattle.editing.specs.declared.Answer.{Answer}
 use Rattle.demands.specs.Calls.{Call, reply, refuse_point, change, Editing, At, first, rest_at, finished_at, report_by, declines, takes, stance}
 use Rattle.demands.specs.Calls.{unless_declined, after_call, due_to}
-use Rattle.demands.specs.Book.{heard, opened, ruled, Ends, Edits, standingReport, Holds, Trail, begun, followed, FromSolver}
+use Rattle.demands.specs.Book.{heard, opened, ruled, Ends, Edits, standing_report, Holds, Trail, begun, followed, FromSolver}
 
 -- ---- the calls of a host
 
@@ -158,7 +158,7 @@ module _ (σ : Solver) (o : Opening) where
   pub record OpensFresh (a : Answer) : Type 0 where
     pub stops : (heard o a.step ≡ none) ↔ (0 ≡ questions (host_of σ o) (whole o))
     pub ends : heard o a.step ≡ none → Ends (fresh σ o o.requested) none a.step (ReadsAs a.session)
-    pub stands : ReadsAs a.session (standingReport σ o (opened o (heard o a.step)))
+    pub stands : ReadsAs a.session (standing_report σ o (opened o (heard o a.step)))
 
   pub record EndsFresh (u : Trail) (before s : Session) (c : Made) : Type 0 where
     -- where the book's rules place 8, 9, 14 and 15, they come and change nothing
