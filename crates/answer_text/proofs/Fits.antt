@@ -21,7 +21,6 @@ use Rattle.stencil.specs.declared.StencilRows.{StencilRows}
 use Rattle.phases.specs.Phases.{finished_of}
 use Rattle.session.specs.Meaning.{held_of, within_of, stands_in}
 use Rattle.definition.specs.declared.Step.{Step}
-use Rattle.definition.specs.declared.Step.TheVariants as Step
 use Rattle.session.specs.Meaning as run
 use Rattle.report_parts.specs.Parts.{results_at, bands_at}
 use Rattle.report.specs.Reading.{report_in}

@@ -15,7 +15,6 @@ use Rattle.report.specs.declared.UncertaintyTruingReportV1.{UncertaintyTruingRep
 use Rattle.report.specs.Reading.{place_in, of_baseline, baseline_results, HeadOf, Shows}
 use Rattle.report.specs.Reading.{report_in}
 use Rattle.report.specs.declared.Shown.{Shown}
-use Rattle.report.specs.declared.Shown.TheVariants as Shown
 use Rattle.editing.specs.Meaning.{state}
 use Rattle.editing.specs.declared.Session.{Session}
 use Rattle.report_text.specs.Writing.{Text, Writes}

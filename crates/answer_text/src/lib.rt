@@ -1,5 +1,6 @@
 // The session's answers as lines of the protocol, without their line feeds.
 #![tactic(auto)]
+
 ghost use Rattle.std.specs.Prelude.{◌≡◌, true, take};
 ghost use Rattle.std.proofs.Math.Option.{some};
 ghost use Rattle.definition.specs.Summary.{Report};

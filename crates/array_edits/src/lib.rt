@@ -1,5 +1,6 @@
 // An entry put in, taken out or exchanged in the first places of an array. Places are counted from 0.
 #![tactic(auto)]
+
 ghost use Rattle.std.specs.Prelude.{◌≡◌, set};
 ghost use Rattle.array_edits.specs.Places.{inserted_of, removed_of};
 

@@ -1,5 +1,6 @@
 // The predictive band at one requested distance: the interval of the predicted drop, and that of a future observation.
 #![tactic(auto)]
+
 ghost use Rattle.std.specs.Prelude.{◌≡◌};
 ghost use Rattle.interval.specs.Interval.{says};
 ghost use Rattle.definition.specs.Summary.{band_variance_of, latent_of, future_of, latent_with, band_of};

@@ -1,5 +1,6 @@
 // The functions that C and Rust link, by the exports of `c_api_c`.
 #![tactic(auto)]
+
 ghost use Rattle.std.specs.Prelude.{◌≡◌, ◌∷◌, [], ◌+◌, ◌*◌, ◌≤◌, ◌<◌, length, replicate};
 ghost use Rattle.root.specs.Root.{root_of};
 ghost use Rattle.numeric.specs.Numeric.{zero64};

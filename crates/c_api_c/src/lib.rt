@@ -1,5 +1,6 @@
 // The exports for C: each calls the function of its name in `c_api`, which says what it does, with the same clauses.
 #![tactic(auto)]
+
 ghost use Rattle.std.specs.Prelude.{◌≡◌};
 ghost use Rattle.root.specs.Root.{root_of};
 ghost use Rattle.c_api.specs.Desk.{priors_of, sum_outcome, inverse_outcome};

@@ -9,7 +9,6 @@ use borrow.Author.Tests.{leb-true, leb-false, ne_eqb}
 use lib.Dec.{leb, eqb}
 use lib.ListN.{length, take, length-take}
 use lib.Seq.{take_all}
-use lib.Ieee.{Float}
 use Rattle.definition.specs.Request.{Opening}
 use Rattle.definition.specs.Run.{Run, done, refuse, ask, Reply, Which, shots, distances, new}
 use Rattle.definition.specs.Summary.{Finished}
@@ -19,7 +18,7 @@ use Rattle.definition.specs.declared.Point.{Point}
 use Rattle.definition.proofs.Questions.{asks_now}
 use Rattle.definition.specs.Session.{sizes_for, wants, right_length}
 use Rattle.editing.specs.declared.Session.{Session}
-use Rattle.demands.specs.Calls.{Call, reply, resume, Editing, At, rest_by, rest_at, Taking, declines, takes, taking_reply, stance, after_taken, unless_declined}
+use Rattle.demands.specs.Calls.{Call, resume, Editing, At, rest_by, rest_at, Taking, declines, takes, taking_reply, stance, after_taken, unless_declined}
 use Rattle.demands.specs.Calls.{after_call}
 use Rattle.demands.specs.Calls.{due, due_to}
 use Rattle.demands.specs.Standing.{IsNew, News}

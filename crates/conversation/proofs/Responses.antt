@@ -1,5 +1,5 @@
 -- What each line comes to, over plain values. Assumes nothing.
-use Prim.Native.Nat.{ℕ, zero, suc, ◌+◌, ◌≤◌, ◌<◌}
+use Prim.Native.Nat.{ℕ, suc, ◌+◌, ◌≤◌, ◌<◌}
 use mathlib.Core.Path.{◌≡◌, refl, sym, ap, ◌∙◌, subst}
 use mathlib.Core.Bool.{Bool, true, false, cond, ◌&&◌}
 use mathlib.Core.List.{List, [], ◌∷◌, ◌++◌, map, append_assoc}
@@ -10,7 +10,6 @@ use borrow.Author.Tests.{lt-ltb, ltb-true}
 use lib.Dec.{ltb, eqb}
 use lib.ListN.{length, drop, length-append, take-append-drop}
 use lib.Ieee.{Float}
-use Rattle.numeric.specs.Numeric.{zero64}
 use Rattle.definition.specs.Request.{Opening}
 use Rattle.definition.specs.Run as run
 use Rattle.definition.specs.Run.{Run, done, refuse, ask}
@@ -24,7 +23,7 @@ use Rattle.editing.specs.Meaning.{state, seen}
 use Rattle.editing.proofs.Contracts.{Stands as Stood, Declines, entries_taken, Opened, Replied}
 use Rattle.editing.specs.declared.Session.{Session}
 use Rattle.editing.specs.declared.Answer.{Answer as Given}
-use Rattle.demands.specs.Calls.{Call, reply, first, finished_at, report_by, after_call, due_to}
+use Rattle.demands.specs.Calls.{Call}
 use Rattle.demands.specs.Demands.{Meets, count}
 use Rattle.lines.specs.Lines.{Form}
 use Rattle.lines.specs.Reading.{entries_in, form_in, form_says}
@@ -42,7 +41,7 @@ use Rattle.page.proofs.Laws.{page_length}
 use Rattle.conversation.specs.Conversation.{Conversation, Answer, malformed_at, Answered, answer_text, malformed_line, collected, in_place, opens, calls}
 use Rattle.conversation.specs.Conversation.{reply_of, next_line, answer_to, page_answer}
 use Rattle.requests.specs.Kept.{kept, opening_in, Keeps}
-use Rattle.conversation.specs.Tracks.{Stands, Tracks, response_says, response_text, Responds, Fills}
+use Rattle.conversation.specs.Tracks.{Tracks, response_says, response_text, Responds, Fills}
 use Rattle.conversation.specs.declared.Section.{Section}
 use Rattle.conversation.specs.declared.Section.TheVariants.{Closed}
 use Rattle.requests.specs.declared.Request.{Request}

@@ -1,26 +1,15 @@
 -- The session of the first 65 stands for the opening of all: what it says is the definition's. Assumes nothing.
-use Prim.Native.Nat.{ℕ, zero, suc, ◌+◌, ◌≤◌, ◌<◌, min}
+use Prim.Native.Nat.{ℕ}
 use mathlib.Core.Path.{◌≡◌, refl, sym, ap, ◌∙◌, subst}
-use mathlib.Core.Bool.{Bool, true, false, cond}
-use mathlib.Core.List.{List, [], ◌∷◌, ◌++◌}
-use mathlib.Core.Option.{Option, none, some}
+use mathlib.Core.Option.{none}
 use mathlib.Core.Logic.{◌⊎◌, inl, inr}
-use native.Mathlib.Omega.{arith}
-use borrow.Author.Tests.{leb-true, leb-false, le-leb}
-use lib.Dec.{leb}
-use lib.ListN.{length, take, length-take}
-use lib.Seq.{take_all}
-use Rattle.definition.specs.Lists.{first_at}
-use Rattle.definition.specs.Request.{Observation, Requested, Measured, Opening}
-use Rattle.definition.specs.Run.{Run, done, refuse, ask, bind, require, unless}
+use Rattle.definition.specs.Request.{Opening}
+use Rattle.definition.specs.Run.{Run, refuse}
 use Rattle.definition.specs.Laws.{put}
-use Rattle.definition.specs.Summary.{Finished, Report}
-use Rattle.definition.specs.Whole.{faulty_observation, faulty_requested, sound_prior_of, checked_point, checked_count, checked_measured, checked_requested}
-use Rattle.definition.specs.Whole.{within_of, run, whole}
-use Rattle.criteria.specs.Criteria.{mv_min, mv_max, bc_min, bc_max}
+use Rattle.definition.specs.Summary.{Finished}
+use Rattle.definition.specs.Whole.{whole}
 use Rattle.definition.specs.Session.{head, sizes_for}
 use Rattle.definition.specs.declared.Step.{Step}
-use Rattle.definition.specs.declared.Step.TheVariants as Step
 use Rattle.report.specs.Reading.{report_in}
 use Rattle.editing.specs.Meaning.{state}
 use Rattle.editing.proofs.Contracts.{Opened}

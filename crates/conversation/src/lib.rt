@@ -1,5 +1,6 @@
 // The line protocol as steps: a line of the host leads to the conversation after it, and its answer is written into a lent buffer.
 #![tactic(auto)]
+
 ghost use Rattle.definition.specs.Request.{Opening};
 ghost use Rattle.definition.specs.Meaning.{number_of};
 ghost use Rattle.std.specs.Prelude.{◌≡◌};

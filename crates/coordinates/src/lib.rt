@@ -1,5 +1,6 @@
 // The two coordinates of a fit, speed and coefficient: their scales, and a point within their bounds.
 #![tactic(auto)]
+
 ghost use Rattle.std.specs.Prelude.{◌≡◌};
 ghost use Rattle.definition.specs.Mesh.{bounded_of};
 

@@ -1,5 +1,6 @@
 // The estimator's fixed limits: the fit's bounds, and which gain of the objective is material.
 #![tactic(auto)]
+
 ghost use Rattle.std.specs.Prelude.{◌≡◌};
 ghost use Rattle.criteria.specs.Criteria.{material_of, at_bound_of};
 

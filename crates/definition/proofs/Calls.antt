@@ -1,9 +1,8 @@
 -- The contracts of the calls from where a session stands, for whatever shows it. Assumes nothing.
-use Prim.Native.Nat.{ℕ}
 use mathlib.Core.Path.{◌≡◌, sym, subst}
 use mathlib.Core.Bool.{Bool, true, false}
 use mathlib.Core.List.{List}
-use mathlib.Core.Option.{Option, none, some}
+use mathlib.Core.Option.{Option, some}
 use lib.ListN.{length}
 use lib.Ieee.{Float}
 use Rattle.definition.specs.Run.{Run, ask, Reply, refused, entries, Which}

@@ -10,7 +10,6 @@ use Rattle.matrix.specs.Matrix.{Inverted, inverse, non_finite, rank_deficient, i
 use Rattle.matrix.specs.declared.Symmetric2.{Symmetric2}
 use Rattle.interval.specs.declared.GaussianIntervalV1.{GaussianIntervalV1}
 use Rattle.criteria.specs.Criteria.{at_bound_of}
-use Rattle.definition.specs.Likelihood.{evaluation_of}
 use Rattle.definition.specs.Summary.{interval95, Approximation, available, unavailable, covariance_of, correlation_of, with_intervals, with_inverse}
 use Rattle.definition.specs.Summary.{build_approximation_of, approximation_of, effective_count_of, effective_count, diagnostics_of, report_of}
 use Rattle.definition.specs.Laws.{Between, CorrelationRange, EffectiveCountRange}

@@ -1,7 +1,7 @@
 -- A list read from an index on, as a loop reads it: laws for a fold, for `any`, for `first_at`, and for three lists read together.
 -- `d` is what `get_or` gives past the end; none of the laws reads it.
 use Prim.Native.Nat.{ℕ, zero, suc, ◌+◌, ◌<◌, ◌≤◌}
-use mathlib.Core.Path.{◌≡◌, refl, sym, ap, ◌∙◌}
+use mathlib.Core.Path.{◌≡◌, refl, ap, ◌∙◌}
 use mathlib.Core.Bool.{Bool, true, false, cond, ◌||◌}
 use mathlib.Core.List.{List, [], ◌∷◌, foldl}
 use native.Mathlib.Nat.{not-suc-le-zero, le_of_suc-le-suc}

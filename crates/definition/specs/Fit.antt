@@ -8,9 +8,9 @@ use Rattle.criteria.specs.Criteria.{material_of}
 use Rattle.definition.specs.Constants.{◌⊕◌, ◌⊖◌, ◌⊗◌, ◌⊘◌, four, ten, mv_scale, bc_scale, first_damping, least_damping, least_diagonal, least_determinant}
 use Rattle.definition.specs.Constants.{flat_gradient}
 use Rattle.definition.specs.Request.{Measured}
-use Rattle.definition.specs.Run.{Run, done, ◌>>=◌, ◌>>◌}
+use Rattle.definition.specs.Run.{Run, done, ◌>>=◌}
 use Rattle.definition.specs.Likelihood.{objective, evaluate, evaluation_of, Rows}
-use Rattle.definition.specs.Mesh.{Convergence, not_converged, scaled_gradient, Poll, poll, first_pass, bounded_of}
+use Rattle.definition.specs.Mesh.{Convergence, scaled_gradient, Poll, poll, first_pass, bounded_of}
 use Rattle.definition.specs.declared.Point.{Point}
 use Rattle.definition.specs.declared.Evaluation.{Evaluation}
 

@@ -1,5 +1,5 @@
 -- Lists as the scope speaks of them: positions and places are counted from 1.
-use Rattle.std.specs.Prelude.{ℕ, zero, suc, ◌-◌, min, Bool, false, cond, ◌||◌, List, [], ◌∷◌}
+use Rattle.std.specs.Prelude.{ℕ, zero, suc, min, Bool, false, cond, ◌||◌, List, [], ◌∷◌}
 
 -- one more than a position, where there is one: 0 is none
 abbrev pub next : ℕ → ℕ

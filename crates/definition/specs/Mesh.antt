@@ -9,7 +9,7 @@ use Rattle.matrix.specs.declared.Symmetric2.{Symmetric2}
 use Rattle.criteria.specs.Criteria.{mv_min, mv_max, bc_min, bc_max, material_of}
 use Rattle.definition.specs.Constants.{◌⊕◌, ◌⊖◌, ◌⊗◌, quarter, mv_scale, bc_scale, first_radius, least_radius}
 use Rattle.definition.specs.Request.{Measured}
-use Rattle.definition.specs.Run.{Run, done, ◌>>=◌, ◌>>◌}
+use Rattle.definition.specs.Run.{Run, done, ◌>>=◌}
 use Rattle.definition.specs.Likelihood.{objective}
 use Rattle.definition.specs.declared.Point.{Point}
 

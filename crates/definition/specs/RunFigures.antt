@@ -1,7 +1,7 @@
 -- Whole runs, told by how many questions they put and what they end in: S24's, and more that tell the definition from near misses of it. The tables
 -- `RunFigures`, `OpeningFigures`, `EditFigures`, `ReportFigure`, `PollFigures`, `LimitFigures` and `CutFigure` have one proof each, by computation, in
 -- proofs/Figures.antt.
-use Rattle.std.specs.Prelude.{ℕ, zero, suc, ◌^◌, ◌-◌, ◌*◌, Bool, true, false, cond, ◌&&◌, ◌||◌, List, [], ◌∷◌, T, eqb, Float}
+use Rattle.std.specs.Prelude.{ℕ, zero, suc, ◌^◌, ◌*◌, Bool, true, false, cond, ◌&&◌, ◌||◌, List, [], ◌∷◌, T, eqb, Float}
 use Rattle.std.specs.Bool.{beq}
 use Rattle.std.proofs.Math.Option.{Option, none, some}
 use Rattle.std.specs.Float.{nan, inf, binary64}

@@ -4,13 +4,12 @@ use Rattle.std.specs.Prelude.{ℕ, suc, ◌≡◌, Bool, true, false, cond, ◌&
 use Rattle.std.proofs.Math.Option.{Option, none, some}
 use Rattle.definition.specs.Lists.{zip_with}
 use Rattle.definition.specs.Request.{Opening}
-use Rattle.definition.specs.Run.{Run, done, refuse, ask, Reply, refused, entries, Entry, missing, drop, Which, shots, distances, new}
+use Rattle.definition.specs.Run.{Run, done, refuse, ask, refused, entries, Entry, missing, drop, Which, shots, distances, new}
 use Rattle.definition.specs.Summary.{Finished}
 use Rattle.definition.specs.Whole.{whole, Edit, placed, edit}
 use Rattle.definition.specs.declared.Distances.{Distances}
 use Rattle.definition.specs.declared.Distances.TheVariants.{Shots, Requested, New}
 use Rattle.definition.specs.declared.Step.{Step}
-use Rattle.definition.specs.declared.Step.TheVariants as Step
 
 -- ---- what is said
 

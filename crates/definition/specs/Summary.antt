@@ -1,5 +1,5 @@
 -- What a finished fit is reported as: observation results, baseline, `build_approximation`, diagnostics, predictive bands, warnings.
-use Rattle.std.specs.Prelude.{ℕ, zero, suc, Bool, true, false, cond, not, ◌||◌, ◌&&◌, pos, length, Float}
+use Rattle.std.specs.Prelude.{ℕ, zero, suc, Bool, true, false, cond, not, ◌||◌, pos, length, Float}
 use mathlib.Core.List.{List, [], ◌∷◌, map, foldl}
 use Rattle.std.proofs.Math.Option.{Option, none, some}
 use Rattle.std.specs.Float.{inf, binary64}
@@ -13,9 +13,9 @@ use Rattle.interval.specs.declared.GaussianIntervalV1.{GaussianIntervalV1}
 use Rattle.criteria.specs.Criteria.{mv_min, mv_max, bc_min, bc_max, at_bound_of}
 use Rattle.definition.specs.Constants.{◌⊕◌, ◌⊖◌, ◌⊗◌, ◌⊘◌, squared, mv_scale, bc_scale, variance_tolerance, least_sensitivity_ratio, largest_condition}
 use Rattle.definition.specs.Constants.{prior_dominance, epsilon}
-use Rattle.definition.specs.Lists.{any, zip_with, zip_with3}
+use Rattle.definition.specs.Lists.{any, zip_with}
 use Rattle.definition.specs.Request.{Observation, Requested, Measured}
-use Rattle.definition.specs.Run.{Reply, refused, entries, Reading, reading_of}
+use Rattle.definition.specs.Run.{Reply, refused, entries, reading_of}
 use Rattle.definition.specs.Likelihood.{chi_square_of, Rows, rows_of}
 use Rattle.definition.specs.Mesh.{Convergence, not_converged, scaled_gradient, objective_mesh}
 use Rattle.definition.specs.Fit.{Fit, gradient_norm_of}

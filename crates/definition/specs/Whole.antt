@@ -1,12 +1,12 @@
 -- The whole run: the opening's refusals, the fit, the evaluation at the fit, the bands, the baseline. And an edit of a finished run, which is a run too.
-use Rattle.std.specs.Prelude.{ℕ, zero, suc, ◌-◌, ◌+◌, Bool, true, false, cond, not, ◌||◌, ◌&&◌, List, [], ◌∷◌, leb, ltb, length, set, get_or, Float}
+use Rattle.std.specs.Prelude.{ℕ, zero, suc, ◌-◌, ◌+◌, Bool, true, not, ◌&&◌, List, [], ◌∷◌, leb, ltb, length, set, get_or, Float}
 use Rattle.std.proofs.Math.Option.{Option, none, some}
 use Rattle.std.specs.Float.Ieee.{le}
 use Rattle.numeric.specs.Numeric.{zero64, finite}
 use Rattle.criteria.specs.Criteria.{mv_min, mv_max, bc_min, bc_max}
 use Rattle.definition.specs.Lists.{first_at, insert_at, remove_at}
 use Rattle.definition.specs.Request.{Observation, Requested, Measured, Opening}
-use Rattle.definition.specs.Run.{Run, done, ask, refuse, ◌>>=◌, ◌>>◌, require, unless, Reply, shots, distances, new}
+use Rattle.definition.specs.Run.{Run, done, ask, refuse, ◌>>=◌, ◌>>◌, require, unless, shots, distances, new}
 use Rattle.definition.specs.Likelihood.{Rows, truing_jacobian_rows, complete, evaluate, evaluation_of}
 use Rattle.definition.specs.Fit.{Fit, fit_map}
 use Rattle.definition.specs.Summary.{Finished, Baseline, baseline_of}

@@ -1,5 +1,6 @@
 // The values that a request, a report and the pieces between them are made of.
 #![tactic(auto)]
+
 use interval::GaussianIntervalV1;
 use matrix::Symmetric2;
 

@@ -1,5 +1,5 @@
 -- The book and the definition agree at every call of a host whose replies come from one solver: by induction over the calls. Assumes nothing.
-use Prim.Native.Nat.{ℕ, zero, suc, ◌+◌}
+use Prim.Native.Nat.{ℕ, suc, ◌+◌}
 use mathlib.Core.Path.{◌≡◌, refl, sym, ap, ◌∙◌, subst}
 use mathlib.Core.Bool.{Bool, true, false, cond}
 use mathlib.Core.List.{List, [], ◌∷◌, ◌++◌}
@@ -22,7 +22,6 @@ use Rattle.fresh_outcome.proofs.Edits.{edit_fresh, list_kept}
 use Rattle.fresh_outcome.proofs.Reports.{only_band}
 use Rattle.definition.specs.Session.{head, list_of, sizes_for, wants, right_length}
 use Rattle.definition.specs.declared.Step.{Step}
-use Rattle.definition.specs.declared.Step.TheVariants as Step
 use Rattle.demands.specs.Calls.{Call, reply, refuse_point, change, resume, Editing, At, first, rest_at, kept_by, finished_by, finished_at, report_by, Taking}
 use Rattle.demands.specs.Calls.{declines, takes, taking_reply, taking_refusal, taking_edit, stance, with_reply, with_edit, after_taken, unless_declined}
 use Rattle.demands.specs.Calls.{after_call, due, due_to}

@@ -1,5 +1,5 @@
 -- The three demands, by induction over the calls. The invariant: what a session stands for is what is left of the run or of the last edit.
-use Prim.Native.Nat.{ℕ, zero, suc, ◌≤◌, ◌<◌}
+use Prim.Native.Nat.{ℕ, suc, ◌≤◌, ◌<◌}
 use mathlib.Core.Path.{◌≡◌, refl, sym, ap, ◌∙◌, subst}
 use mathlib.Core.Bool.{Bool, true, false, cond}
 use mathlib.Core.List.{List, [], ◌∷◌, ◌++◌, map}
@@ -7,7 +7,6 @@ use mathlib.Core.Option.{Option, none, some}
 use mathlib.Core.Logic.{◌↔◌}
 use native.Mathlib.Omega.{arith}
 use borrow.Author.Tests.{lt-ltb}
-use lib.Dec.{ltb}
 use lib.ListN.{length}
 use lib.Ieee.{Float}
 use Rattle.definition.specs.Request.{Opening}
@@ -21,13 +20,11 @@ use Rattle.definition.specs.Laws.{Asks, put}
 use Rattle.definition.specs.declared.Point.{Point}
 use Rattle.definition.proofs.Questions.{asks_now, asks_next, asks_edit, every_new, count, count_of_edit}
 use Rattle.fitting.proofs.Laws.{bind_assoc}
-use Rattle.fresh_outcome.specs.Solver.{Solver, host_of, fresh}
+use Rattle.fresh_outcome.specs.Solver.{Solver, host_of}
 use Rattle.definition.specs.Session.{entries_of}
 use Rattle.definition.specs.Session.{State, asking, standing, over, head, more_of, counted, Sizes, sizes_for, wants, right_length, either}
 use Rattle.definition.specs.declared.Step.{Step}
-use Rattle.definition.specs.declared.Step.TheVariants as Step
 use Rattle.definition.specs.declared.Distances.{Distances}
-use Rattle.definition.specs.declared.Distances.TheVariants as Distances
 use Rattle.definition.specs.Session as meaning
 use Rattle.report.specs.Reading.{Shows, place_in, baseline_results}
 use Rattle.report.specs.Reading.{report_in}
@@ -39,14 +36,14 @@ use Rattle.editing.specs.declared.Answer.{Answer}
 use Rattle.demands.specs.Calls.{Call, reply, refuse_point, change, resume, Editing, At, first, rest_by, rest_at, kept_by, finished_by, finished_at, report_by}
 use Rattle.demands.specs.Calls.{Taking, declines, takes, taking_reply, taking_refusal, taking_edit, stance, with_reply, with_edit, after_taken, unless_declined}
 use Rattle.demands.specs.Calls.{after_call, due, due_to}
-use Rattle.demands.specs.Book.{heard, opened, ruled, Ends, Edits, standing_report as standsWith, Holds, Trail, begun, followed, FromSolver}
+use Rattle.demands.specs.Book.{heard, opened, Ends, standing_report as standsWith, Holds, Trail, begun, followed}
 use Rattle.demands.specs.Demands as stated
 use Rattle.demands.specs.Demands.{Made, Meets, Chained, Throughout, ReadsAs, checked, OpensProperly, counted_said, most_of, EndsProperly, Demand1}
 use Rattle.demands.specs.Demands.{OpensAsDefined, AsDefined, Demand2, Changes, edited_from, next_trail, AllFrom, OpensFresh, EndsFresh, before_edit, Along}
 use Rattle.demands.specs.Demands.{Demand3}
 use Rattle.demands.specs.Example as example
 use Rattle.demands.specs.Standing.{IsNew, News, Inv}
-use Rattle.demands.proofs.Book.{resume_more, rest_more, kept_more, Agrees, agrees_first, agrees_ruled, agrees_next, agrees_holds, agrees_changes}
+use Rattle.demands.proofs.Book.{resume_more, rest_more, Agrees, agrees_first, agrees_ruled, agrees_next, agrees_holds, agrees_changes}
 use Rattle.demands.proofs.Book.{agrees_opened, opened_stops}
 
 -- ---- the count

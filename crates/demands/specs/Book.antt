@@ -11,9 +11,7 @@ use Rattle.definition.specs.Session.{entries_of}
 use Rattle.fresh_outcome.specs.Solver.{Solver, reply_at, distances_of, host_of, with_list, fresh}
 use Rattle.definition.specs.Session.{right_length}
 use Rattle.definition.specs.declared.Step.{Step}
-use Rattle.definition.specs.declared.Step.TheVariants as Step
 use Rattle.definition.specs.declared.Distances.{Distances}
-use Rattle.definition.specs.declared.Distances.TheVariants as Distances
 use Rattle.demands.specs.Calls.{Call, reply, refuse_point, change, Taking, declines, takes, unless_declined}
 
 -- ---- what the book hears

@@ -1,5 +1,5 @@
 -- The calls of a host on a session just opened, and what the definition says to each: where the run and its edits stand after the calls before it.
-use Rattle.std.specs.Prelude.{ℕ, Bool, true, cond, List, [], ◌∷◌, ◌++◌, length, Float}
+use Rattle.std.specs.Prelude.{ℕ, Bool, cond, List, [], ◌∷◌, ◌++◌, length, Float}
 use Rattle.std.proofs.Math.Option.{Option, none, some}
 use Rattle.definition.specs.Request.{Opening}
 use Rattle.definition.specs.Run.{Run, done, refuse, ask, Reply, refused, entries}
@@ -8,7 +8,6 @@ use Rattle.definition.specs.Whole.{whole, Edit, placed, edit}
 use Rattle.definition.specs.Session.{entries_of}
 use Rattle.definition.specs.Session.{head, Sizes, sizes_for, wants, right_length}
 use Rattle.definition.specs.declared.Step.{Step}
-use Rattle.definition.specs.declared.Step.TheVariants as Step
 
 -- ---- the calls
 

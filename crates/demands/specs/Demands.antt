@@ -14,9 +14,7 @@ use Rattle.report.specs.declared.ResultAt.{ResultAt}
 use Rattle.report.specs.declared.BandAt.{BandAt}
 use Rattle.definition.specs.Session.{head}
 use Rattle.definition.specs.declared.Step.{Step}
-use Rattle.definition.specs.declared.Step.TheVariants as Step
 use Rattle.definition.specs.declared.Distances.{Distances}
-use Rattle.definition.specs.declared.Distances.TheVariants as Distances
 use Rattle.report.specs.Reading.{Shows, place_in, baseline_results}
 use Rattle.report.specs.declared.Shown.{Shown}
 use Rattle.editing.specs.Meaning.{state, seen}

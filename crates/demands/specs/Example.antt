@@ -13,9 +13,7 @@ use Rattle.definition.specs.declared.Point.{Point}
 use Rattle.fresh_outcome.specs.Solver.{Solver, fresh}
 use Rattle.definition.specs.Session.{head}
 use Rattle.definition.specs.declared.Step.{Step}
-use Rattle.definition.specs.declared.Step.TheVariants as Step
 use Rattle.definition.specs.declared.Distances.{Distances}
-use Rattle.definition.specs.declared.Distances.TheVariants as Distances
 use Rattle.demands.specs.Calls.{Call, reply, refuse_point, change, At, first, after_call, due_to}
 use Rattle.editing.specs.Meaning.{seen}
 use Rattle.definition.specs.Session.{Opened}

@@ -1,6 +1,7 @@
 // Every call of a host with its whole promise: what each ensures is what the three demands assume of it (specs/Demands.antt), so that a contract
 // of `editing` which says less is refused here. Nothing is decided in this file.
 #![tactic(auto)]
+
 ghost use Rattle.std.specs.Prelude.{◌≡◌};
 ghost use Rattle.definition.specs.Meaning.{requested_of};
 ghost use Rattle.definition.specs.Whole as Edit;

@@ -1,6 +1,7 @@
 // A demonstration: fits a bundled lot of twelve shots over the demonstration solver, says in plain words what comes out, and shows the request and the
 // answer as lines of the protocol. It reads nothing.
 #![tactic(auto)]
+
 mod lot;
 mod meaning;
 mod protocol;
@@ -13,11 +14,17 @@ use numeric::DropUnit;
 use std::io;
 
 fn say_heading(rt: &HostRuntime) -> io::Result<()> {
-    say::text(rt, b"Launch speed and ballistic coefficient of a slug, fitted to the drops of twelve shots.\n",
+    say::text(
+        rt,
+        b"Launch speed and ballistic coefficient of a slug, fitted to the drops of twelve shots.\n",
     )?;
-    say::text(rt, b"Nobody fired them: they are the drops of a small flight solver, each with a made-up deviation below\n",
+    say::text(
+        rt,
+        b"Nobody fired them: they are the drops of a small flight solver, each with a made-up deviation below\n",
     )?;
-    say::text(rt, b"its sigma. The solver is no part of the estimator. The point that they were made at:\n",
+    say::text(
+        rt,
+        b"its sigma. The solver is no part of the estimator. The point that they were made at:\n",
     )?;
     say::text(rt, b"                    ")?;
     say::column(rt, lot::TRUE_SPEED)?;
@@ -119,7 +126,10 @@ fn conversation(
 fn say_beginning(rt: &HostRuntime, lot: Lot, opened: Answer) -> io::Result<()> {
     let ranges = lot.ranges;
     let distances = lot.distances;
-    say::text(rt, b"\nThe lines behind it, as docs/PROTOCOL.md has them. The request:\n")?;
+    say::text(
+        rt,
+        b"\nThe lines behind it, as docs/PROTOCOL.md has them. The request:\n",
+    )?;
     protocol::say_request(rt, lot)?;
     say::text(rt, b"\nThe conversation begins:\n")?;
     let _begun = conversation(rt, opened, ranges, distances, SHOWN, true)?;

@@ -23,13 +23,21 @@ fn say_page(rt: &HostRuntime, s: Session) -> io::Result<()> {
 
 fn say_failure(rt: &HostRuntime, code: TruingApproximationFailureCodeV1) -> io::Result<()> {
     match code {
-        TruingApproximationFailureCodeV1::OptimizerDidNotConverge => say::text(rt, b"the search for the best fit did not settle.\n",
+        TruingApproximationFailureCodeV1::OptimizerDidNotConverge => say::text(
+            rt,
+            b"the search for the best fit did not settle.\n",
         ),
-        TruingApproximationFailureCodeV1::MapAtParameterBound => say::text(rt, b"the best fit lies at the edge of the speeds and coefficients that are allowed.\n",
+        TruingApproximationFailureCodeV1::MapAtParameterBound => say::text(
+            rt,
+            b"the best fit lies at the edge of the speeds and coefficients that are allowed.\n",
         ),
-        TruingApproximationFailureCodeV1::RankDeficientInformation => say::text(rt, b"the shots do not tell the speed and the coefficient apart.\n",
+        TruingApproximationFailureCodeV1::RankDeficientInformation => say::text(
+            rt,
+            b"the shots do not tell the speed and the coefficient apart.\n",
         ),
-        TruingApproximationFailureCodeV1::NonFiniteInformation => say::text(rt, b"a number in the calculation grew beyond all bounds.\n",
+        TruingApproximationFailureCodeV1::NonFiniteInformation => say::text(
+            rt,
+            b"a number in the calculation grew beyond all bounds.\n",
         ),
     }
 }
@@ -48,9 +56,13 @@ fn say_approximation(rt: &HostRuntime, a: TruingApproximationV1) -> io::Result<(
 
 fn say_how(rt: &HostRuntime, criterion: TruingMapConvergenceCriterionV1) -> io::Result<()> {
     match criterion {
-        TruingMapConvergenceCriterionV1::ScaledGradient => say::text(rt, b"The fit converged: at this point no small change of speed or coefficient makes it better.\n",
+        TruingMapConvergenceCriterionV1::ScaledGradient => say::text(
+            rt,
+            b"The fit converged: at this point no small change of speed or coefficient makes it better.\n",
         ),
-        TruingMapConvergenceCriterionV1::ObjectiveMesh => say::text(rt, b"The fit converged: of the points tried all around this one, none is better.\n",
+        TruingMapConvergenceCriterionV1::ObjectiveMesh => say::text(
+            rt,
+            b"The fit converged: of the points tried all around this one, none is better.\n",
         ),
     }
 }
@@ -64,10 +76,15 @@ fn say_convergence(rt: &HostRuntime, c: Criterion) -> io::Result<()> {
 
 fn say_reduced(rt: &HostRuntime, reduced: Number) -> io::Result<()> {
     match reduced {
-        Number::Absent => say::text(rt, b"There are too few shots to judge the fit by its chi-square.\n",
+        Number::Absent => say::text(
+            rt,
+            b"There are too few shots to judge the fit by its chi-square.\n",
         ),
         Number::Given(x) => {
-            say::text(rt, b"Chi-square per degree of freedom, about 1 where the sigmas are right:\n")?;
+            say::text(
+                rt,
+                b"Chi-square per degree of freedom, about 1 where the sigmas are right:\n",
+            )?;
             say::text(rt, b"                    ")?;
             say::column(rt, x)?;
             say::text(rt, b"\n")
@@ -85,11 +102,18 @@ fn say_fit(rt: &HostRuntime, d: TruingUncertaintyDiagnosticsV1) -> io::Result<()
 // The entered point, for comparison.
 fn say_baseline(rt: &HostRuntime, b: Baseline) -> io::Result<()> {
     match b {
-        Baseline::Absent => say::text(rt, b"The solver has no flight at the entered point to compare with.\n",
+        Baseline::Absent => say::text(
+            rt,
+            b"The solver has no flight at the entered point to compare with.\n",
         ),
         Baseline::Given(g) => {
-            say::text(rt, b"The entered speed and coefficient, and chi-square there:\n")?;
-            say::row(rt, b"entered             ",
+            say::text(
+                rt,
+                b"The entered speed and coefficient, and chi-square there:\n",
+            )?;
+            say::row(
+                rt,
+                b"entered             ",
                 g.muzzle_velocity_fps,
                 g.ballistic_coefficient,
                 g.chi_square,
@@ -101,7 +125,9 @@ fn say_baseline(rt: &HostRuntime, b: Baseline) -> io::Result<()> {
 // ---- the shots
 
 fn say_result(rt: &HostRuntime, o: WeightedTruingObservationResultV1) -> io::Result<()> {
-    say::row(rt, b"shot                ",
+    say::row(
+        rt,
+        b"shot                ",
         o.range_yd,
         o.sigma,
         o.standardized_residual,
@@ -160,34 +186,52 @@ fn say_warning(rt: &HostRuntime, stands: bool, sentence: &[u8]) -> io::Result<()
 }
 
 fn say_warnings_of_the_fit(rt: &HostRuntime, w: Warnings) -> io::Result<()> {
-    say_warning(rt, w.optimizer_did_not_converge,
+    say_warning(
+        rt,
+        w.optimizer_did_not_converge,
         b"the search for the best fit did not settle, so these numbers are not to be used.",
     )?;
-    say_warning(rt, w.objective_mesh_convergence,
+    say_warning(
+        rt,
+        w.objective_mesh_convergence,
         b"the slopes alone did not show the best fit; it was found by trying points around it.",
     )?;
-    say_warning(rt, w.weak_bc_sensitivity,
+    say_warning(
+        rt,
+        w.weak_bc_sensitivity,
         b"these drops say little about the coefficient; shots from farther away would say more.",
     )?;
-    say_warning(rt, w.ill_conditioned_data,
+    say_warning(
+        rt,
+        w.ill_conditioned_data,
         b"the shots alone hardly tell a faster slug from one with less drag.",
     )
 }
 
 fn say_warnings_of_the_intervals(rt: &HostRuntime, w: Warnings) -> io::Result<()> {
-    say_warning(rt, w.mv_prior_dominated,
+    say_warning(
+        rt,
+        w.mv_prior_dominated,
         b"the speed rests mostly on the entered prior, and hardly on the shots.",
     )?;
-    say_warning(rt, w.bc_prior_dominated,
+    say_warning(
+        rt,
+        w.bc_prior_dominated,
         b"the coefficient rests mostly on the entered prior, and hardly on the shots.",
     )?;
-    say_warning(rt, w.gaussian_approximation_unavailable,
+    say_warning(
+        rt,
+        w.gaussian_approximation_unavailable,
         b"there are no intervals, so nothing here says how far off the numbers may be.",
     )?;
-    say_warning(rt, w.interval_crosses_fit_bounds,
+    say_warning(
+        rt,
+        w.interval_crosses_fit_bounds,
         b"an interval reaches past the speeds or coefficients that the fit was allowed.",
     )?;
-    say_warning(rt, w.low_effective_degrees_of_freedom,
+    say_warning(
+        rt,
+        w.low_effective_degrees_of_freedom,
         b"there are hardly more shots than unknowns, so a bad fit would not show.",
     )
 }
@@ -195,7 +239,9 @@ fn say_warnings_of_the_intervals(rt: &HostRuntime, w: Warnings) -> io::Result<()
 fn say_warnings(rt: &HostRuntime, w: Warnings) -> io::Result<()> {
     say_warnings_of_the_fit(rt, w)?;
     say_warnings_of_the_intervals(rt, w)?;
-    say_warning(rt, w.prediction_outside_observed_domain,
+    say_warning(
+        rt,
+        w.prediction_outside_observed_domain,
         b"a requested distance lies nearer or farther than all shots; its drop is an extrapolation.",
     )
 }
@@ -208,9 +254,13 @@ fn say_report(rt: &HostRuntime, s: Session, r: UncertaintyTruingReportV1) -> io:
     let diagnostics = r.diagnostics;
     let baseline = r.baseline;
     let found = r.warnings;
-    say::text(rt, b"The page for the counter, in feet per second, yards and inches. After a fitted value, and after\n",
+    say::text(
+        rt,
+        b"The page for the counter, in feet per second, yards and inches. After a fitted value, and after\n",
     )?;
-    say::text(rt, b"the drop at a requested distance, stand the ends of its 95 % interval; a shot has its distance,\n",
+    say::text(
+        rt,
+        b"the drop at a requested distance, stand the ends of its 95 % interval; a shot has its distance,\n",
     )?;
     say::text(rt, b"the measured drop and that of the fit.\n\n")?;
     say_page(rt, s)?;
@@ -218,10 +268,15 @@ fn say_report(rt: &HostRuntime, s: Session, r: UncertaintyTruingReportV1) -> io:
     say_approximation(rt, approximation)?;
     say_fit(rt, diagnostics)?;
     say_baseline(rt, baseline)?;
-    say::text(rt, b"\nEach shot's distance and sigma, and its residual (the fit's drop less the measured one) over it:\n",
+    say::text(
+        rt,
+        b"\nEach shot's distance and sigma, and its residual (the fit's drop less the measured one) over it:\n",
     )?;
     say_results(rt, s, r.observations)?;
-    say::text(rt, b"\nThe 95 % interval of one more shot's drop, where its sigma was given:\n")?;
+    say::text(
+        rt,
+        b"\nThe 95 % interval of one more shot's drop, where its sigma was given:\n",
+    )?;
     say_bands(rt, s, r.predictive_bands)?;
     say::text(rt, b"\n")?;
     say_warnings(rt, found)

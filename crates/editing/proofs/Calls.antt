@@ -1,18 +1,17 @@
 -- The calls over plain sessions. The functions' proofs cite these.
-use Prim.Native.Nat.{ℕ, zero, suc, ◌≤◌, ◌<◌}
+use Prim.Native.Nat.{ℕ, ◌≤◌, ◌<◌}
 use mathlib.Core.Path.{◌≡◌, refl, sym, ap, ◌∙◌, subst}
-use mathlib.Core.Bool.{Bool, true, false, not, ◌&&◌}
-use mathlib.Core.List.{List, [], ◌∷◌, map}
+use mathlib.Core.Bool.{Bool, true, false, ◌&&◌}
+use mathlib.Core.List.{List}
 use mathlib.Core.Option.{Option, none, some}
 use native.Mathlib.Omega.{arith}
 use borrow.Author.Tests.{lt-ltb, le-ltb}
 use lib.Dec.{ltb}
-use lib.ListN.{length, get_or}
-use lib.Ieee.{Float, nan}
+use lib.ListN.{length}
+use lib.Ieee.{Float}
 use Rattle.definition.specs.Request.{Requested, Opening}
-use Rattle.definition.specs.Run.{Run, done, refuse, ask, bind, require, answered, refused, entries, Reading, reading_of, drop_or0, Which, new}
-use Rattle.definition.specs.Likelihood.{Rows, slope, slopes, mv_step_of, bc_step_of}
-use Rattle.definition.specs.Lists.{first_of}
+use Rattle.definition.specs.Run.{Run, done, refuse, ask, bind, require, refused, entries, reading_of, Which, new}
+use Rattle.definition.specs.Likelihood.{Rows}
 use Rattle.definition.specs.Summary.{Finished}
 use Rattle.definition.specs.Whole.{Edit, put_in, take_out, exchange, placed, renewed, no_rows, sound_requested_of}
 use Rattle.definition.specs.Whole as whole
@@ -23,8 +22,6 @@ use Rattle.definition.specs.Session.{entries_of}
 use Rattle.report.specs.Places.{requested_at}
 use Rattle.report.specs.declared.ResultAt.{ResultAt}
 use Rattle.report.specs.declared.BandAt.{BandAt}
-use Rattle.report.specs.declared.ResultAt.TheVariants as ResultAt
-use Rattle.report.specs.declared.BandAt.TheVariants as BandAt
 use Rattle.stencil.specs.Stencil.{point_at, rows_next, stencil_next, five_row, laid_rows, one_rows}
 use Rattle.session.specs.Meaning.{sizes_of}
 use Rattle.stencil.proofs.Laws.{one_next}
@@ -40,7 +37,6 @@ use Rattle.report.specs.Reading.{Shows, place_in, baseline_results, report_in, R
 use Rattle.session.specs.declared.Fitted.{Fitted}
 use Rattle.session.specs.declared.Fitted.TheVariants.{Unfitted, FittedAt}
 use Rattle.report.specs.declared.Shown.{Shown}
-use Rattle.report.specs.declared.Shown.TheVariants as Shown
 use Rattle.session.specs.declared.Session.{Session as Running}
 use Rattle.session.specs.declared.Answer.{Answer as RunAnswer}
 use Rattle.definition.specs.declared.Step.TheVariants.{Report, Refused}

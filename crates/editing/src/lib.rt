@@ -1,6 +1,7 @@
 // A session whose requested distances can be edited once its run has ended. The run is a `session::Session`; an edit asks about its new distance alone and
 // then changes the list and the bands of the finished run, or leaves them as they were.
 #![tactic(auto)]
+
 ghost use Rattle.std.specs.Prelude.{◌≡◌, true, length};
 ghost use Rattle.std.proofs.Math.Option.{some};
 ghost use Rattle.definition.specs.Summary.{Finished};

@@ -18,9 +18,7 @@ use Rattle.objective_mesh.specs.Meaning.{pass_of, poll_of, seen_within}
 use Rattle.objective_mesh.specs.declared.Poll.{Poll}
 use Rattle.fitting.specs.declared.Progress.{Progress}
 use Rattle.fitting.specs.declared.Stage.{Stage}
-use Rattle.fitting.specs.declared.Stage.TheVariants as Stage
 use Rattle.fitting.specs.declared.Wait.{Wait}
-use Rattle.fitting.specs.declared.Wait.TheVariants as Wait
 use Rattle.fitting.specs.declared.Moved.{Moved}
 
 -- the iterations begun: those of the 100 that are not left

@@ -1,5 +1,6 @@
 // `fit_map` as steps between questions, on the numbers of a fit alone: which question comes next once an evaluation or an objective is there.
 #![tactic(auto)]
+
 ghost use Rattle.std.specs.Prelude.{◌≡◌};
 ghost use Rattle.fitting.specs.Meaning.{left_of, Moves, AfterRows, Blank, found_at, flat_at, iteration_at, candidate_at, polled_at, poll_at, start_at};
 ghost use Rattle.fitting.specs.Meaning.{after_trial, after_look};

@@ -1,5 +1,6 @@
 // A two-sided interval from a Gaussian's variance.
 #![tactic(auto)]
+
 ghost use Rattle.std.specs.Prelude.{◌≡◌};
 ghost use Rattle.interval.specs.Interval.{says, level95, factor95, interval_of};
 

@@ -1,5 +1,6 @@
 // The objective, the rows of the five questions and the evaluation, over lent slices: each loop goes up to the end of the shortest.
 #![tactic(auto)]
+
 ghost use Rattle.std.specs.Prelude.{◌≡◌, false, map, min, take};
 ghost use Rattle.definition.specs.Lists.{first_of, first_at, zip_with3};
 ghost use Rattle.definition.specs.Run.{is_missing, drop_or0};

@@ -6,7 +6,7 @@ use lib.Ieee.{Float, nan, binary64, of_bits}
 use Rattle.definition.specs.Run.{missing, drop}
 use Rattle.numerals.specs.Numbers.{digit_of, glyph_of, double_of, count_of, count_text}
 use Rattle.words.specs.Words.{bytes}
-use Rattle.lines.specs.Lines.{malformed, entered, prior_coefficient, distance, open_plain, drops, refused, exchange, entered_of, prior_of}
+use Rattle.lines.specs.Lines.{malformed, entered, prior_coefficient, distance, open_plain, drops, exchange, entered_of, prior_of}
 use Rattle.lines.specs.Lines.{distance_of, exchange_of, take_out_of, form_of}
 
 abbrev one : Float

@@ -1,6 +1,7 @@
 // The observations and the requested distances of a run, each list in the first places of arrays of 64; and changes of the requested distances and of their
 // rows.
 #![tactic(auto)]
+
 ghost use Rattle.std.specs.Prelude.{◌≡◌, ◌≤◌, ◌-◌, T, take};
 ghost use Rattle.definition.specs.Lists.{zip_with};
 ghost use Rattle.definition.specs.Whole.{edited, edited_numbers, edited_rows, placed};

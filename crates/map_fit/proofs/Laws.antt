@@ -7,7 +7,6 @@ use Rattle.definition.specs.declared.Point.{Point}
 use Rattle.definition.specs.declared.Evaluation.{Evaluation}
 use Rattle.map_fit.specs.declared.Step.{Step}
 use Rattle.map_fit.specs.declared.Step.TheVariants.{Unfit, To}
-use Rattle.map_fit.specs.declared.NextTrial.{NextTrial}
 use Rattle.map_fit.specs.declared.NextTrial.TheVariants.{Candidate, Exhausted}
 use Rattle.map_fit.specs.Trials.{says, next_trial_of}
 

@@ -1,5 +1,6 @@
 // `fit_map` between its questions: the damped step, the damping, the gradient test, and which candidate is asked about next.
 #![tactic(auto)]
+
 ghost use Rattle.std.specs.Prelude.{◌≡◌};
 ghost use Rattle.definition.specs.Fit as fit;
 ghost use Rattle.map_fit.specs.Trials.{says, next_trial_of};

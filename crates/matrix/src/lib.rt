@@ -1,5 +1,6 @@
 // A symmetric matrix of two rows: determinant, sum, inverse with its condition number, and the condition of its columns.
 #![tactic(auto)]
+
 ghost use Rattle.std.specs.Prelude.{◌≡◌};
 ghost use Rattle.matrix.specs.Matrix.{determinant_of, sum_of, entries_finite, largest_of, says, inverse_of, column_condition_of};
 

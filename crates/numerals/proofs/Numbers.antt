@@ -11,7 +11,7 @@ use borrow.Author.Tests.{lt-ltb, le-ltb, le-leb, lt-leb, eq-eqb, ne_eqb, ltb-tru
 use lib.Dec.{T, leb, ltb, eqb}
 use lib.ListN.{length, take, drop, get_or, set, replicate, length-append, drop_of_length-le}
 use lib.Seq.{drop-cons, set_split, drop_at, length-take-le}
-use lib.Ieee.{Float, nan, inf, fin, binary64, ne, div, is_nan, fits, of_bits, to_bits}
+use lib.Ieee.{Float, nan, inf, fin, binary64, ne, div, is_nan, of_bits, to_bits}
 use lib.Ieee.Bits.{of_bits-to_bits, to_bits-lt, of_bits-fits}
 use Rattle.numerals.specs.Numbers.{digit_of, glyph_of, number_from, digits_of, of_pattern, double_of, double_text, within64, plain, count_of, places_of}
 use Rattle.numerals.specs.Numbers.{count_text, in20, DoubleBack, PatternBack, CountBack}

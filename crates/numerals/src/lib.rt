@@ -1,5 +1,6 @@
 // Doubles and counts as they stand in a line, read from bytes and written as bytes; and a double's bits, whatever not-a-number it is.
 #![tactic(auto)]
+
 ghost use Rattle.std.specs.Prelude.{◌≡◌, List, ◌++◌, ◌+◌, ◌*◌, ◌≤◌, ◌<◌, length, drop};
 ghost use Rattle.std.proofs.Math.Option.{none, some};
 ghost use Rattle.std.specs.Float.{binary64};

@@ -1,6 +1,7 @@
 // Operations on doubles that the language has no operator for, each by IEEE 754's cases: finite, absolute value, max, clamp, hypot, the poll direction
 // and the drop units.
 #![tactic(auto)]
+
 ghost use Rattle.std.specs.Prelude.{◌≡◌, false};
 ghost use Rattle.std.specs.Float.{inf};
 ghost use Rattle.numeric.specs.Numeric.{finite, abs_of, max_of, clamp_of, scaled_of, hypot_of};

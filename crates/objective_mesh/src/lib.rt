@@ -1,5 +1,6 @@
 // `polish_and_verify_objective_mesh` between its questions: the poll's directions and candidates, and which comes next.
 #![tactic(auto)]
+
 ghost use Rattle.std.specs.Prelude.{◌≡◌, drop, get_or};
 ghost use Rattle.definition.specs.Mesh as mesh;
 ghost use Rattle.objective_mesh.specs.Meaning.{last_direction, pass_of, poll_of, looks_as, says, seen_within};

@@ -1,5 +1,6 @@
 // The opening's checks, refusals 1 to 7: the tests of an entered point, observations, priors and requested distances, and their order.
 #![tactic(auto)]
+
 ghost use Rattle.std.specs.Prelude.{◌≡◌};
 ghost use Rattle.definition.specs.Lists.{first_at};
 ghost use Rattle.definition.specs.Whole.{within_of, positive_of, sound_observation_of, faulty_observation, sound_prior_of, sound_sigma, sound_requested_of};

@@ -13,7 +13,6 @@ use Rattle.report.specs.Report.{Results, seen_of}
 use Rattle.report.specs.declared.UncertaintyTruingReportV1.{UncertaintyTruingReportV1}
 use Rattle.report.specs.Reading.{of_baseline, HeadOf, Shows, report_in}
 use Rattle.report.specs.declared.Shown.{Shown}
-use Rattle.report.specs.declared.Shown.TheVariants as Shown
 use Rattle.warnings.specs.Warnings.{codes_of}
 use Rattle.editing.specs.Meaning.{state}
 use Rattle.editing.specs.declared.Session.{Session}

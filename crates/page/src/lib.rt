@@ -1,5 +1,6 @@
 // The page of the report that stands: one more call that reads a session.
 #![tactic(auto)]
+
 ghost use Rattle.std.specs.Prelude.{◌≡◌, false, map, length, take};
 ghost use Rattle.std.proofs.Math.Option.{some};
 ghost use Rattle.definition.specs.Summary.{Report};

@@ -1,5 +1,6 @@
 // Reads doubles, a line of the 16 hexadecimal digits of its bits each, and writes the 14 columns that a page has for each. A line of another form ends it.
 #![tactic(auto)]
+
 use numerals::ReadDouble;
 use std::io;
 use std::io::{ErrorKind, Read};

@@ -7,7 +7,7 @@ use native.Mathlib.Nat.{pow-suc, mul-suc}
 use native.Mathlib.Omega.{arith}
 use borrow.Author.Tests.{ltb-true, ltb-false}
 use lib.Dec.{ltb}
-use lib.ListN.{length, take, replicate, length-append, length-replicate, length-take}
+use lib.ListN.{length, take, length-append, length-replicate, length-take}
 use lib.Ieee.{Float, nan, inf, fin}
 use Rattle.definition.specs.Summary.{Approximation, Band, Report}
 use Rattle.definition.specs.declared.TruingUncertaintyWarningCodeV1.{TruingUncertaintyWarningCodeV1}
@@ -18,8 +18,7 @@ use Rattle.words.specs.Words.{bytes}
 use Rattle.report_text.specs.Writing.{Text}
 use Rattle.report_text.specs.Texts.{warning_name}
 use Rattle.thousandths.specs.Thousandths.{thousandths_of, shown_at, shown_of}
-use Rattle.thousandths.specs.declared.Shown.{Shown}
-use Rattle.thousandths.specs.declared.Shown.TheVariants.{Hyphen, Hashes, Fixed}
+use Rattle.thousandths.specs.declared.Shown.TheVariants.{Hashes, Fixed}
 use Rattle.page_text.specs.Columns.{blanks, left_aligned, right_aligned, sign_text, three_text, fixed_text, shown_text, number_text, cell_text, row_text, line_text}
 use Rattle.page_text.specs.Columns.{Fourteen}
 use Rattle.page_text.specs.Page.{speed_line, coefficient_line, chi_square_line, shot_line, band_line, phrase_text, warning_line, page_lines, joined_lines}

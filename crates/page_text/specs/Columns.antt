@@ -1,5 +1,5 @@
 -- Columns of the page: a number in 14, and a line of 64. A text is the list of its bytes.
-use Rattle.std.specs.Prelude.{ℕ, ◌+◌, ◌-◌, ◌/◌, ◌%◌, ◌≡◌, Bool, cond, List, [], ◌∷◌, ◌++◌, length, replicate, Float}
+use Rattle.std.specs.Prelude.{ℕ, ◌+◌, ◌-◌, ◌/◌, ◌%◌, ◌≡◌, Bool, cond, [], ◌∷◌, ◌++◌, length, replicate, Float}
 use Rattle.numerals.specs.Numbers.{count_text}
 use Rattle.words.specs.Words.{bytes}
 use Rattle.report_text.specs.Writing.{Text}

@@ -1,5 +1,5 @@
 -- The page for the counter (L1): a report as lines of 64 columns, each ended by a line feed.
-use Rattle.std.specs.Prelude.{ℕ, ◌≡◌, List, [], ◌∷◌, ◌++◌, map, length, take, Float}
+use Rattle.std.specs.Prelude.{◌≡◌, List, [], ◌∷◌, ◌++◌, map, length, take, Float}
 use Rattle.std.proofs.Math.Option.{Option, none, some}
 use Rattle.interval.specs.declared.GaussianIntervalV1.{GaussianIntervalV1}
 use Rattle.definition.specs.Summary.{Approximation, available, unavailable, Band, Report}

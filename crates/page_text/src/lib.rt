@@ -1,5 +1,6 @@
 // The page for the counter, written into a lent buffer line by line: each function writes from a position on and gives the next one.
 #![tactic(auto)]
+
 ghost use Rattle.std.specs.Prelude.{◌≡◌, cond, [], ◌++◌, map, ◌+◌, ◌-◌, ◌*◌, ◌≤◌, ◌<◌, length};
 ghost use Rattle.interval.specs.Interval.{says};
 ghost use Rattle.definition.specs.Meaning.{approximation_says};

@@ -21,7 +21,6 @@ use Rattle.fitting.specs.declared.Progress.{Progress}
 use Rattle.fitting.specs.declared.Moved.{Moved}
 use Rattle.fitting.specs.declared.Stage.{Stage}
 use Rattle.fitting.specs.declared.Wait.{Wait}
-use Rattle.fitting.specs.declared.Wait.TheVariants as Wait
 use Rattle.stencil.specs.Stencil.{point_at}
 use Rattle.phases.specs.Phases.{asks_at, stops_at, Leads, Waits, valued_from, Judges, Goes, Evaluates, Fives}
 use Rattle.phases.specs.declared.Next.{Next}

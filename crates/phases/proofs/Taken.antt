@@ -24,7 +24,6 @@ use Rattle.definition.specs.declared.Evaluation.{Evaluation as Evaluated}
 use Rattle.definition.specs.declared.Distances.TheVariants.{Shots, Requested as RequestedOnes}
 use Rattle.fitting.specs.Meaning.{fit_of, after_rows, after_trial, after_look, start_at}
 use Rattle.fitting.specs.declared.Stage.{Stage}
-use Rattle.fitting.specs.declared.Stage.TheVariants as Stage
 use Rattle.fitting.proofs.Laws.{bind_assoc}
 use Rattle.stencil.specs.Stencil.{stencil, stencil_next, point_at, rows_next}
 use Rattle.stencil.proofs.Laws.{left, left_more, left_gap, left_whole, stencil_left}
@@ -32,7 +31,6 @@ use Rattle.phases.specs.Phases.{Held, with_progress, after_bands, finished_with,
 use Rattle.phases.specs.Phases.{valued_from, with_evaluation, at_fit_at, Evaluates, Fives, five_bands_at, Takes}
 use Rattle.phases.specs.declared.Phase.{Phase}
 use Rattle.phases.specs.declared.Phase.TheVariants.{Over, Start, Evaluation, Trial, Look, Bands, Ended}
-use Rattle.phases.specs.declared.Phase.TheVariants as Phase
 use Rattle.phases.specs.declared.Next.{Next}
 
 -- ---- the open question

@@ -17,12 +17,10 @@ use Rattle.fitting.specs.Meaning.{Continuation, fit_of, after_rows, after_trial,
 use Rattle.fitting.specs.declared.Progress.{Progress}
 use Rattle.fitting.specs.declared.Moved.{Moved}
 use Rattle.fitting.specs.declared.Stage.{Stage}
-use Rattle.fitting.specs.declared.Stage.TheVariants as Stage
 use Rattle.fitting.specs.declared.Wait.TheVariants as Wait
 use Rattle.stencil.specs.Stencil.{stencil, point_at, five_row}
 use Rattle.phases.specs.declared.Phase.{Phase}
 use Rattle.phases.specs.declared.Phase.TheVariants.{Over, Start, Evaluation, Trial, Look, Bands, Ended}
-use Rattle.phases.specs.declared.Phase.TheVariants as Phase
 use Rattle.phases.specs.declared.Plan.{Plan}
 use Rattle.phases.specs.declared.Next.{Next}
 

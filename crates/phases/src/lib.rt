@@ -1,5 +1,6 @@
 // Which question of a run is open, what it wants of a reply, and where a taken reply leads: on the numbers of the fit alone, without the run's lists.
 #![tactic(auto)]
+
 ghost use Rattle.std.specs.Prelude.{◌≡◌};
 ghost use Rattle.phases.specs.Phases.{is_at_fit, nothing_asked, objective_asked, five_asked, plan_of, asks_at, stops_at, Waits, Judges, at_fit_at, Evaluates};
 ghost use Rattle.phases.specs.Phases.{Fives, five_bands_at, Takes};

@@ -1,6 +1,7 @@
 // A flight solver for demonstrations, and no part of the estimator: it lets a fit be run without a host's own solver. A point mass is fired horizontally; drag
 // and gravity act on it in steps of a fixed time. The answer at a distance depends on the point and that distance alone, whatever else is asked about.
 #![tactic(auto)]
+
 ghost use Rattle.std.specs.Prelude.{◌≡◌};
 ghost use Rattle.definition.specs.Run.{is_missing, drop_or0};
 ghost use Rattle.definition.specs.Whole.{within_of};

@@ -1,5 +1,6 @@
 // The objective's sum over a lent list of records, each read where it lies.
 #![tactic(auto)]
+
 ghost use Rattle.std.specs.Prelude.{◌≡◌, map};
 ghost use Rattle.definition.specs.Likelihood.{with_shot, chi_square_of};
 ghost use Rattle.records.specs.Records.{observation_in};

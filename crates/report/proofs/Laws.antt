@@ -11,7 +11,7 @@ use lib.Ieee.{Float}
 use Rattle.definition.specs.Lists.{any, zip_with, zip_with3}
 use Rattle.definition.specs.Request.{Observation, Requested}
 use Rattle.definition.specs.Meaning.{observation_of, observations_of}
-use Rattle.definition.specs.Summary.{result_of, results_of, Approximation, band_of, Finished, report_of, observed_min, observed_max, is_outside}
+use Rattle.definition.specs.Summary.{result_of, results_of, Approximation, band_of, Finished, report_of, observed_max, is_outside}
 use Rattle.definition.specs.Likelihood.{rows_of}
 use Rattle.definition.specs.declared.Row.{Row}
 use Rattle.definition.specs.declared.TruingPriorsV1.{TruingPriorsV1}

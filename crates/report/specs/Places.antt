@@ -11,11 +11,8 @@ use Rattle.definition.specs.declared.WeightedTruingObservationResultV1.{Weighted
 use Rattle.bands.specs.Bands.{band_says}
 use Rattle.warnings.specs.Warnings.{nearest_of, farthest_of, outside_of}
 use Rattle.report.specs.declared.ResultAt.{ResultAt}
-use Rattle.report.specs.declared.ResultAt.TheVariants as ResultAt
 use Rattle.report.specs.declared.RowAt.{RowAt}
-use Rattle.report.specs.declared.RowAt.TheVariants as RowAt
 use Rattle.report.specs.declared.BandAt.{BandAt}
-use Rattle.report.specs.declared.BandAt.TheVariants as BandAt
 
 module _ {A : Type 0} where
   -- what stands at a place, if there is such a place

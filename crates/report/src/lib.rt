@@ -1,5 +1,6 @@
 // The report of a finished fit: its head, and each place of its lists.
 #![tactic(auto)]
+
 ghost use Rattle.std.specs.Prelude.{◌≡◌, ◌-◌};
 ghost use Rattle.definition.specs.Lists.{zip_with, zip_with3};
 ghost use Rattle.definition.specs.Likelihood.{row_of};

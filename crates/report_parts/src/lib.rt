@@ -1,5 +1,6 @@
 // The parts of a report, from the arrays that a finished run holds.
 #![tactic(auto)]
+
 ghost use Rattle.std.specs.Prelude.{◌≡◌, ◌≤◌};
 ghost use Rattle.definition.specs.Lists.{any};
 ghost use Rattle.definition.specs.Meaning.{convergence_of, approximation_says};

@@ -15,7 +15,6 @@ use Rattle.definition.specs.Fit.{Fit}
 use Rattle.definition.specs.Summary.{Approximation, available, unavailable, Diagnostics, Band, Baseline, Report, warn, warnings_of}
 use Rattle.definition.specs.declared.Evaluation.{Evaluation}
 use Rattle.definition.specs.declared.Prior.{Prior}
-use Rattle.definition.specs.declared.Prior.TheVariants as Prior
 use Rattle.definition.specs.declared.TruingPriorsV1.{TruingPriorsV1}
 use Rattle.definition.specs.declared.TruingCovarianceV1.{TruingCovarianceV1}
 use Rattle.definition.specs.declared.WeightedTruingObservationResultV1.{WeightedTruingObservationResultV1}
@@ -66,7 +65,6 @@ use Rattle.report_text.specs.Texts.{
   malformed_text,
 }
 use Rattle.definition.specs.declared.Distances.{Distances}
-use Rattle.definition.specs.declared.Distances.TheVariants as Distances
 
 -- ---- numbers
 

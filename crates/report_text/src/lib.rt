@@ -1,5 +1,6 @@
 // A report and the other answers as texts, written into a lent buffer: each function writes from a position on and gives the next one.
 #![tactic(auto)]
+
 ghost use Rattle.std.specs.Prelude.{◌≡◌, cond, ◌∷◌, [], ◌++◌, min};
 ghost use Rattle.interval.specs.Interval.{says};
 ghost use Rattle.definition.specs.Meaning.{number_of, approximation_says};

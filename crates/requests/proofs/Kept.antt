@@ -1,6 +1,6 @@
 -- The request's arrays hold the first 65 of the request's lists: with one entry more, and where they are full. Assumes nothing.
-use Prim.Native.Nat.{ℕ, zero, suc, ◌+◌, ◌≤◌, ◌<◌, min}
-use mathlib.Core.Path.{◌≡◌, refl, sym, ap, ◌∙◌, subst}
+use Prim.Native.Nat.{ℕ, ◌+◌, ◌≤◌, ◌<◌, min}
+use mathlib.Core.Path.{◌≡◌, refl, sym, ap, ◌∙◌}
 use mathlib.Core.Bool.{Bool}
 use mathlib.Core.List.{List, [], ◌∷◌, ◌++◌}
 use native.Mathlib.Numerals.{add-one}
@@ -10,11 +10,11 @@ use lib.Seq.{take_all, take-suc-set, take-append-le, length-take-le}
 use lib.Ieee.{Float}
 use Rattle.definition.specs.Lists.{zip_with3}
 use Rattle.definition.specs.Meaning.{observations_of, observation_of}
-use Rattle.definition.specs.Request.{Observation, Requested, Opening}
+use Rattle.definition.specs.Request.{Opening}
 use Rattle.definition.specs.declared.TruingPriorsV1.{TruingPriorsV1}
 use Rattle.opening.specs.Opening.{wanted_at, requested_from}
 use Rattle.requests.specs.Request.{with_shot, with_distance, with_priors}
-use Rattle.requests.specs.Kept.{Shape, Keeps, opening_in, kept}
+use Rattle.requests.specs.Kept.{Keeps}
 use Rattle.requests.specs.declared.Request.{Request}
 
 module _ {A B C D : Type 0} (f : A → B → C → D) where

@@ -1,9 +1,8 @@
 -- The opening of the first 65 is refused as that of all is, or they are all. Assumes nothing.
-use Prim.Native.Nat.{ℕ, zero, suc, ◌+◌, ◌≤◌, ◌<◌, min}
+use Prim.Native.Nat.{ℕ, zero, suc, ◌<◌}
 use mathlib.Core.Path.{◌≡◌, refl, sym, ap, ◌∙◌, subst}
-use mathlib.Core.Bool.{Bool, true, false, cond}
-use mathlib.Core.List.{List, [], ◌∷◌, ◌++◌}
-use mathlib.Core.Option.{Option, none, some}
+use mathlib.Core.Bool.{Bool, true, false}
+use mathlib.Core.List.{List}
 use mathlib.Core.Logic.{◌⊎◌, inl, inr}
 use native.Mathlib.Omega.{arith}
 use borrow.Author.Tests.{leb-true, leb-false, le-leb}
@@ -12,11 +11,9 @@ use lib.ListN.{length, take, length-take}
 use lib.Seq.{take_all}
 use Rattle.definition.specs.Lists.{first_at}
 use Rattle.definition.specs.Request.{Observation, Requested, Measured, Opening}
-use Rattle.definition.specs.Run.{Run, done, refuse, ask, bind, require, unless}
-use Rattle.definition.specs.Laws.{put}
-use Rattle.definition.specs.Summary.{Finished, Report}
+use Rattle.definition.specs.Run.{Run, done, refuse, bind, require, unless}
 use Rattle.definition.specs.Whole.{faulty_observation, faulty_requested, sound_prior_of, checked_point, checked_count, checked_measured, checked_requested}
-use Rattle.definition.specs.Whole.{within_of, run, whole}
+use Rattle.definition.specs.Whole.{within_of, whole}
 use Rattle.criteria.specs.Criteria.{mv_min, mv_max, bc_min, bc_max}
 use Rattle.requests.specs.Kept.{kept}
 

@@ -1,5 +1,6 @@
 // The request that a host is making, line by line, in bounded memory: of each list the first 65 are kept.
 #![tactic(auto)]
+
 ghost use Rattle.std.specs.Prelude.{◌≡◌, take};
 ghost use Rattle.definition.specs.Request.{Opening};
 ghost use Rattle.opening.specs.Opening.{wanted_at};

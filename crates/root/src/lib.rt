@@ -1,6 +1,7 @@
 // The square root of a double, by whole numbers: the input as m * 2 ^ e, then 53 digits of the root, rounded.
 // A guess by float arithmetic is taken where a test over whole numbers says that it is the nearest. Else the digits are found one by one.
 #![tactic(auto)]
+
 ghost use Rattle.std.specs.Prelude.{◌≡◌, true, ◌+◌, ◌*◌, ◌/◌, ◌%◌, ◌^◌, ◌<◌, ◌≤◌};
 ghost use Rattle.std.specs.Float.{binary64};
 ghost use Rattle.std.specs.Float.Ieee.{of_bits};

@@ -6,42 +6,39 @@ use mathlib.Core.List.{List, map}
 use mathlib.Core.Option.{Option, none, some}
 use native.Mathlib.Omega.{arith}
 use borrow.Author.Tests.{eq-eqb}
-use lib.Dec.{T, leb, le→leb, eqb, eqb→eq, eqb-suc-zero}
+use lib.Dec.{leb, le→leb, eqb, eqb-suc-zero}
 use lib.Ieee.{Float}
 use lib.ListN.{length, take}
 use Rattle.numeric.specs.Numeric.{zero64, finite}
 use Rattle.definition.specs.Lists.{zip_with, zip_with3}
-use Rattle.definition.specs.Request.{Measured}
-use Rattle.definition.specs.Run.{Run, Entry, entries, reading_of, drop_or0}
+use Rattle.definition.specs.Run.{Entry, entries, reading_of, drop_or0}
 use Rattle.definition.specs.Meaning.{observations_of}
 use Rattle.definition.specs.Likelihood as likelihood
 use Rattle.definition.specs.Summary.{Finished, Baseline, baseline_at, results_of}
 use Rattle.definition.specs.Summary as summary
-use Rattle.definition.specs.Whole as whole
-use Rattle.definition.specs.Session.{asking, entries_of, right_length, wants, Declines, Replied}
+use Rattle.definition.specs.Session.{entries_of, right_length, wants, Declines, Replied}
 use Rattle.definition.proofs.Calls.{reply_closed, reply_wrong, reply_taken}
 use Rattle.definition.specs.declared.Point.{Point}
 use Rattle.definition.specs.declared.Evaluation.{Evaluation as Evaluated}
 use Rattle.definition.specs.declared.Step.{Step}
-use Rattle.likelihood.proofs.Laws.{chi_square_places, sums_places, entries_drops, drops_length}
+use Rattle.likelihood.proofs.Laws.{chi_square_places, sums_places, entries_drops}
 use Rattle.report.specs.Places.{requested_at}
-use Rattle.lists.specs.Lists.{requested_in, HasWanted}
+use Rattle.lists.specs.Lists.{HasWanted}
 use Rattle.fitting.specs.declared.Stage.{Stage}
 use Rattle.stencil.specs.Stencil.{rows_at, rows_next, five_row, laid_if, nominal_laid, mv_laid, bc_laid, laid_rows, gap_after}
 use Rattle.stencil.specs.declared.StencilRows.{StencilRows}
 use Rattle.stencil.proofs.Laws.{take_rows, laid as over-laid, rows_laid}
-use Rattle.phases.specs.Phases.{Held, with_progress, state_at, is_at_fit, plan_of, valued_from, Takes}
+use Rattle.phases.specs.Phases.{plan_of, valued_from, Takes}
 use Rattle.phases.specs.declared.Phase.{Phase}
 use Rattle.phases.specs.declared.Phase.TheVariants.{Over, Start, Evaluation, Trial, Look, Bands, Ended}
-use Rattle.phases.specs.declared.Phase.TheVariants as Phase
 use Rattle.phases.specs.declared.Plan.{Plan}
 use Rattle.phases.specs.declared.Next.{Next}
-use Rattle.phases.proofs.Taken.{continue_at, point_of, which_of, open_state, open_wants, Laid, LaidValue, LaidFive, LaidBands, LaidBaseline, Led, taken}
+use Rattle.phases.proofs.Taken.{continue_at, point_of, which_of, open_state, open_wants, Laid, taken}
 use Rattle.lists.proofs.Arrays.{and_both}
 use Rattle.session.specs.Meaning.{measured_of, baseline_in, held_of, within_of, sizes_of, state, seen, declined_by, counted_by, Before}
 use Rattle.session.specs.declared.Body.{Body}
 use Rattle.session.specs.declared.Session.{Session}
-use Rattle.session.proofs.Laws.{right_lengths, true_is, is_true, false_is, shots_within, wanted_within, state_within, closed, number_taken, count_is}
+use Rattle.session.proofs.Laws.{right_lengths, is_true, false_is, shots_within, wanted_within, state_within, closed, number_taken, count_is}
 
 -- ---- what the steps of a reply give
 

@@ -9,17 +9,16 @@ use borrow.Author.Tests.{not-true, not-false}
 use lib.Dec.{T, leb, leb→le, eqb, eqb→eq}
 use lib.Ieee.{Float}
 use lib.ListN.{length}
-use Rattle.definition.specs.Run.{Run, done, refuse, ask, Reply, Which}
+use Rattle.definition.specs.Run.{Run, done, refuse, ask}
 use Rattle.definition.specs.Summary.{Finished}
-use Rattle.definition.specs.Session.{right_length, State, standing, over, after, head, counted, Declines, Stands, goes_on, more_of}
+use Rattle.definition.specs.Session.{right_length, State, standing, over, head, counted}
 use Rattle.definition.proofs.Calls.{Closed}
 use Rattle.definition.specs.declared.Step.{Step}
-use Rattle.definition.specs.declared.Step.TheVariants.{Refused}
 use Rattle.lists.proofs.Arrays.{and_both}
 use Rattle.phases.specs.Phases.{state_at, plan_of, finished_of}
 use Rattle.phases.specs.declared.Phase.TheVariants.{Over}
 use Rattle.phases.proofs.Taken.{closed_state}
-use Rattle.session.specs.Meaning.{held_of, within_of, state, seen, declined_by, counted_by}
+use Rattle.session.specs.Meaning.{held_of, within_of, state, declined_by, counted_by}
 use Rattle.session.specs.declared.Body.{Body}
 use Rattle.session.specs.declared.Session.{Session}
 

@@ -1,21 +1,21 @@
 -- An opening that is refused, and one that puts its first question: what each stands for. The proof of `open` cites these. Assumes nothing.
 use Prim.Native.Nat.{ℕ, ◌≤◌}
-use mathlib.Core.Path.{◌≡◌, refl, sym, ap, ◌∙◌, subst}
-use mathlib.Core.Bool.{Bool, true, cond, ◌&&◌}
+use mathlib.Core.Path.{◌≡◌, refl, sym, ap, ◌∙◌}
+use mathlib.Core.Bool.{Bool, true, ◌&&◌}
 use mathlib.Core.List.{List}
 use mathlib.Core.Option.{none}
 use native.Mathlib.Omega.{arith}
 use lib.Dec.{leb, le→leb}
 use lib.Ieee.{Float}
 use lib.ListN.{length}
-use Rattle.definition.specs.Request.{Observation, Requested, Measured, Opening}
+use Rattle.definition.specs.Request.{Requested, Measured, Opening}
 use Rattle.definition.specs.Run.{Run, done, bind}
 use Rattle.definition.specs.Meaning.{observation_of}
 use Rattle.definition.specs.Likelihood as likelihood
 use Rattle.definition.specs.Fit as fit
 use Rattle.definition.specs.Whole.{checked_measured, checked_requested}
 use Rattle.definition.specs.Whole as whole
-use Rattle.definition.specs.Session.{after, head, counted, more_of, over, Sizes, sizes_for, Opened}
+use Rattle.definition.specs.Session.{after, head, counted, more_of, sizes_for, Opened}
 use Rattle.definition.specs.declared.Point.{Point}
 use Rattle.definition.specs.declared.TruingPriorsV1.{TruingPriorsV1}
 use Rattle.definition.specs.declared.Distances.TheVariants as Distances

@@ -1,7 +1,7 @@
 -- The calls that read, over plain sessions: where a report stands, and that its head and its places are the definition's.
 use Prim.Native.Nat.{ℕ, ◌≤◌}
 use mathlib.Core.Path.{◌≡◌, refl, sym, ap, ◌∙◌, subst}
-use mathlib.Core.Bool.{Bool, true, false, cond, not, ◌&&◌}
+use mathlib.Core.Bool.{Bool, true, false, cond, ◌&&◌}
 use mathlib.Core.List.{List}
 use mathlib.Core.Option.{none, some}
 use native.Mathlib.Omega.{arith}
@@ -17,11 +17,8 @@ use Rattle.report.specs.Places.{nth, result_says, band_at_says}
 use Rattle.report.specs.Report as head
 use Rattle.report.specs.Report.{Results, baseline_says, seen_of, PartsOf}
 use Rattle.report.specs.declared.Baseline.{Baseline}
-use Rattle.report.specs.declared.Baseline.TheVariants.{Absent, Given}
 use Rattle.report.specs.declared.ResultAt.{ResultAt}
-use Rattle.report.specs.declared.ResultAt.TheVariants as ResultAt
 use Rattle.report.specs.declared.BandAt.{BandAt}
-use Rattle.report.specs.declared.BandAt.TheVariants as BandAt
 use Rattle.report.specs.declared.UncertaintyTruingReportV1.{UncertaintyTruingReportV1}
 use Rattle.report_parts.specs.Parts.{results_at, bands_at, baseline_at, ResultsCount, BandsCount}
 use Rattle.report.specs.Reading.{of_baseline, HeadOf, Shows, place_in, baseline_results, report_in, ReportRead, ResultRead, BaselineResultRead, BandRead}

@@ -1,12 +1,10 @@
 -- A refusal of the point: declined, the run's end, or the report without a baseline. The proof of `refuse` cites these. Assumes nothing.
-use Prim.Native.Nat.{ℕ}
-use mathlib.Core.Path.{◌≡◌, refl, sym, ap, ◌∙◌, subst}
+use mathlib.Core.Path.{◌≡◌, refl, sym, ap, ◌∙◌}
 use mathlib.Core.Bool.{Bool, true, false, cond, not, ◌&&◌}
 use mathlib.Core.Option.{none}
 use borrow.Author.Tests.{not-true, not-false, eq-eqb, ne_eqb}
 use lib.Dec.{eqb}
-use Rattle.definition.specs.Run.{Run, done, refuse, refused}
-use Rattle.definition.specs.Summary.{Finished}
+use Rattle.definition.specs.Run.{done, refuse, refused}
 use Rattle.definition.specs.Session.{after, head, counted, Declines, goes_on, PointRefused}
 use Rattle.definition.proofs.Calls.{refusal_closed, refusal_taken_lem}
 use Rattle.definition.specs.declared.Step.{Step}

@@ -1,5 +1,5 @@
 -- A finished run with one requested distance more, fewer or exchanged: its list and the rows of its bands change, and nothing else.
-use Rattle.std.specs.Prelude.{ℕ, ◌-◌, ◌≡◌, ◌&&◌, length}
+use Rattle.std.specs.Prelude.{ℕ, ◌≡◌, ◌&&◌, length}
 use Rattle.std.proofs.Math.Option.{Option, none, some}
 use Rattle.definition.specs.Likelihood.{Rows}
 use Rattle.definition.specs.Whole.{Edit, placed, renewed}

@@ -1,5 +1,5 @@
 -- What a session stands for: what is left of its run.
-use Rattle.std.specs.Prelude.{ℕ, ◌≤◌, ◌≡◌, Bool, true, false, cond, ◌&&◌, List, leb, length, take, Float}
+use Rattle.std.specs.Prelude.{ℕ, ◌≡◌, Bool, true, false, cond, ◌&&◌, List, leb, length, take, Float}
 use Rattle.std.proofs.Math.Option.{Option, none, some}
 use Rattle.definition.specs.Request.{Measured}
 use Rattle.definition.specs.Likelihood.{chi_square_of}

@@ -1,5 +1,6 @@
 // The session: opening and replying. It holds the request and what a run has come to so far; each call yields a question, a report or a refusal.
 #![tactic(auto)]
+
 ghost use Rattle.std.specs.Prelude.{◌≡◌, cond, ◌&&◌, leb, eqb, take};
 ghost use Rattle.numeric.specs.Numeric.{zero64, finite};
 ghost use Rattle.definition.specs.Lists.{zip_with3};

@@ -3,14 +3,15 @@
 // formula of a few operations, 1 for `point_mass`) and what becomes of the reports: 0 as said, 1 for the last one's line below the counts too, 2 for none being
 // written.
 #![tactic(auto)]
+
 ghost use Rattle.std.specs.Prelude.{◌≡◌, take};
 
 use definition::{Distances, NormalPriorV1, Point, Prior, Step, TruingPriorsV1};
 use editing::Answer;
-use std::io;
-use std::io::{Input, Read};
 use numerals::ReadCount;
 use numeric::DropUnit;
+use std::io;
+use std::io::{Input, Read};
 
 // The drop at a distance falls with the square of the time of flight, more or less.
 fn solve(mv: f64, bc: f64, range: f64) -> f64 {

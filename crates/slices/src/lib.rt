@@ -1,5 +1,6 @@
 // How far slices are read together, and the first places of one: so much of an array is in use.
 #![tactic(auto)]
+
 ghost use Rattle.std.specs.Prelude.{◌≡◌, min, take};
 ghost use Rattle.slices.specs.Slices.{shortest_of};
 

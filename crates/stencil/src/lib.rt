@@ -1,6 +1,7 @@
 // The five questions about a list of distances: where each is put, and where the drops of its reply go. The rows of a run's lists and the row of an edit's new
 // distance are filled by the same function.
 #![tactic(auto)]
+
 ghost use Rattle.std.specs.Prelude.{◌≡◌, map};
 ghost use Rattle.definition.specs.Run.{drop_or0};
 ghost use Rattle.definition.specs.Session.{entries_of};

@@ -1,5 +1,5 @@
 -- The input byte by byte. Assumes nothing.
-use Prim.Native.Nat.{ℕ, zero, suc, ◌+◌, ◌≤◌, ◌<◌, min}
+use Prim.Native.Nat.{ℕ, ◌+◌, ◌≤◌, ◌<◌, min}
 use mathlib.Core.Path.{◌≡◌, refl, sym, ap, ◌∙◌, subst}
 use mathlib.Core.Bool.{Bool, true, false, cond}
 use mathlib.Core.List.{List, [], ◌∷◌, ◌++◌, append_assoc, append-nil}
@@ -8,23 +8,21 @@ use native.Mathlib.Omega.{arith}
 use borrow.Author.Tests.{leb-true, leb-false, eq-eqb, ne_eqb}
 use lib.Dec.{eqb, leb}
 use lib.ListN.{length, take, drop, set, get_or, length-append, length-set, length-take, drop_of_length-le}
-use lib.Seq.{drop-cons, take_all, take-suc-set, take-append-le, length-take-le}
-use Rattle.lines.specs.Lines.{Form, form_of, words_of, put_first}
+use lib.Seq.{drop-cons, take_all, take-suc-set, take-append-le}
+use Rattle.lines.specs.Lines.{form_of, words_of, put_first}
 use Rattle.lines.specs.Reading.{start_of, take_of, form_in, short, read_rest, read_all}
 use Rattle.lines.specs.declared.Line.{Line}
 use Rattle.lines.proofs.Lines.{line_form, long_same}
 use Rattle.report_text.specs.Writing.{Text}
 use Rattle.conversation.specs.Conversation.{Conversation, Answered, unended_text, next_line, answer_to, text_of, initial}
 use Rattle.stream.specs.Output.{unended, on_first, lines_of, answers_to, output_of}
-use Rattle.stream.specs.Bytes.{Cut, uncut, cut_byte, cut_from, some, Reads, line_in, ends_in, rest_in, Scans, output_from, Holds, Goes, Feeds}
+use Rattle.stream.specs.Bytes.{Cut, uncut, cut_byte, cut_from, some, Reads, line_in, ends_in, rest_in, Scans, output_from, Feeds}
 use Rattle.conversation.specs.Tracks.{Tracks, Fills, Answers}
 use Rattle.conversation.proofs.Replies.{answer_short}
-use Rattle.conversation.specs.declared.Conversation.{Conversation as Held}
 use Rattle.conversation.specs.declared.Replied.{Replied}
 use Rattle.stream.specs.declared.Scanned.{Scanned}
 use Rattle.stream.specs.declared.State.{State}
 use Rattle.stream.specs.declared.Reader.{Reader}
-use Rattle.stream.specs.declared.Fed.{Fed}
 
 -- ---- a line that is cut byte by byte is read as its words are
 

@@ -1,12 +1,11 @@
 -- For every input, in whatever pieces it comes, the program's bytes are the definition's. Assumes nothing.
 use Prim.Native.Nat.{ℕ}
-use mathlib.Core.Path.{◌≡◌, refl, sym, ap, ◌∙◌, subst}
+use mathlib.Core.Path.{◌≡◌, refl, sym, ap, ◌∙◌}
 use mathlib.Core.List.{List, [], ◌∷◌, ◌++◌, append_assoc, append-nil}
 use lib.ListN.{length, take, drop, drop_of_length-le}
 use lib.Seq.{take_at}
 use Rattle.report_text.specs.Writing.{Text}
 use Rattle.conversation.specs.Conversation.{Conversation, initial}
-use Rattle.stream.specs.Output.{output_of}
 use Rattle.stream.specs.Bytes.{output_from, Holds}
 use Rattle.conversation.specs.Tracks.{Fills}
 use Rattle.stream.specs.Program.{FeedCall, PieceFed, state_after, written, Piece, InputFed, last_state, input, all_written, Output}

@@ -1,5 +1,6 @@
 // Standard input as it comes, in any pieces: bytes become lines, and each line gets its answer in a lent buffer.
 #![tactic(auto)]
+
 ghost use Rattle.std.specs.Prelude.{◌≡◌, List, [], ℕ, take};
 ghost use Rattle.lines.specs.Lines.{form_of};
 ghost use Rattle.lines.specs.Reading.{form_in, short};

@@ -1,5 +1,6 @@
 // What a finished fit is reported as: observation results, `build_approximation` and the diagnostics.
 #![tactic(auto)]
+
 ghost use Rattle.std.specs.Prelude.{◌≡◌};
 ghost use Rattle.definition.specs.Fit.{gradient_norm_of};
 ghost use Rattle.definition.specs.Summary.{result_of, interval95, covariance_of, correlation_of, with_intervals, build_approximation_of, approximation_of};

@@ -2,6 +2,7 @@
 // `begin`, `feed` and `finish` are the library's, with what theorem `output` of `stream` assumes of them: however the input is cut into pieces, the bytes that
 // they leave in the buffer are those of the protocol's definition. What follows them is the loop that reads, calls and writes.
 #![tactic(auto)]
+
 ghost use Rattle.std.specs.Prelude.{[]};
 ghost use Rattle.conversation.specs.Conversation.{initial};
 ghost use Rattle.stream.specs.Bytes.{Holds, Feeds, Finishes};

@@ -1,22 +1,16 @@
 -- The definition's warnings, by the numbers and the lists of numbers that the code reads; and that each occurs at most once, in the order of the source.
-use Prim.Native.Nat.{ℕ, suc, ◌≤◌}
 use mathlib.Core.Path.{◌≡◌, refl, ap}
-use mathlib.Core.Bool.{Bool, true, false, ◌||◌}
+use mathlib.Core.Bool.{◌||◌}
 use mathlib.Core.List.{List, [], ◌∷◌, map}
-use mathlib.Core.Option.{Option}
 use native.Mathlib.Omega.{arith}
 use lib.ListN.{length}
 use lib.Ieee.{Float}
 use Rattle.definition.specs.Lists.{any}
 use Rattle.definition.specs.Request.{Observation, Requested, Measured}
-use Rattle.definition.specs.Mesh.{Convergence}
 use Rattle.definition.specs.Fit.{Fit}
 use Rattle.definition.specs.Meaning.{observations_of}
-use Rattle.definition.specs.Summary.{Approximation, Diagnostics, ranges_of, observed_min, observed_max, is_outside, warn, warnings_of}
-use Rattle.definition.specs.declared.TruingPriorsV1.{TruingPriorsV1}
+use Rattle.definition.specs.Summary.{Approximation, Diagnostics, ranges_of, observed_min, observed_max, is_outside, warnings_of}
 use Rattle.definition.specs.declared.Evaluation.{Evaluation}
-use Rattle.definition.specs.declared.TruingUncertaintyWarningCodeV1.{TruingUncertaintyWarningCodeV1}
-use Rattle.definition.specs.declared.TruingUncertaintyWarningCodeV1.TheVariants as Warning
 use Rattle.warnings.specs.Warnings.{codes, nearest_of, farthest_of, outside_of, ill_conditioned_of, mv_dominated_of, bc_dominated_of, interval_crosses_of}
 use Rattle.warnings.specs.Warnings.{warnings_by}
 

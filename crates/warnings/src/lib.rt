@@ -1,5 +1,6 @@
 // The ten warnings, each as a truth.
 #![tactic(auto)]
+
 ghost use Rattle.std.specs.Prelude.{◌≡◌};
 ghost use Rattle.definition.specs.Lists.{any};
 ghost use Rattle.definition.specs.Summary.{converged, nearer, farther, dominated_of, crosses_bounds_of, is_mesh, is_unavailable, at_most_one};

@@ -7,7 +7,7 @@ use native.Mathlib.Nat.{le_of_suc-le-suc, not-suc-le-zero}
 use borrow.Author.Tests.{eqb-true, eq-eqb, ltb-true}
 use lib.Dec.{ltb, eqb, eqb-zero-suc, eqb-suc-zero, eqb-suc-suc}
 use lib.ListN.{length, get_or}
-use Rattle.words.specs.Words.{bytes, same, is, words, word_at, place_in, place_of, place}
+use Rattle.words.specs.Words.{bytes, same, words, word_at, place_in, place_of, place}
 use Rattle.words.specs.Rows.{low}
 use Rattle.words.specs.Rule.{fit, Rule, WordOf, Named, AllFit, LowNone}
 

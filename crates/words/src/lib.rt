@@ -1,5 +1,6 @@
 // The fixed words of the line protocol, those that are read and those that are written: one table, a word to a row.
 #![tactic(auto)]
+
 ghost use Rattle.std.specs.Prelude.{◌≡◌, ◌<◌, length, get_or};
 ghost use Rattle.words.specs.Words.{same, words, word_at, place_of};
 ghost use Rattle.words.specs.Rows.{padded, table_of, low};

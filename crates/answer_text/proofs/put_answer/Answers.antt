@@ -1,5 +1,4 @@
 -- `put_answer`: by what is said.
-use borrow.Author.Rules.{rules}
 use mathlib.Core.Path.{sym, ap}
 use Rattle.report.specs.Reading.{report_in}
 use Rattle.definition.specs.declared.Step.{Step}

@@ -1,21 +1,10 @@
 -- `put_bands`: item by item. The invariant: the first i items are written.
-use borrow.Author.Rules.{rules}
-use Prim.Native.Nat.{ℕ, ◌-◌, ◌≤◌, ◌+◌}
-use mathlib.Core.Path.{◌≡◌, sym, ap, ◌∙◌}
-use mathlib.Core.List.{List, [], ◌∷◌, ◌++◌, map}
-use mathlib.Core.Option.{Option, some}
-use native.Mathlib.Omega.{arith}
+use Prim.Native.Nat.{◌-◌, ◌≤◌}
+use mathlib.Core.List.{map}
 use lib.ListN.{take}
-use Rattle.definition.specs.Summary.{Band, Report}
-use Rattle.report.specs.Places.{band_at_says}
-use Rattle.editing.specs.Meaning.{state}
-use Rattle.report.specs.Reading.{report_in}
-use Rattle.answer_text.proofs.Laws.{place_list}
-use Rattle.report_text.specs.Writing.{Text, Writes}
-use Rattle.report_text.proofs.Writing.{then, as_text, same_room, within, nothing}
-use Rattle.report_text.specs.Texts.{joined, bracketed, band_text, bands_text}
+use Rattle.report_text.specs.Writing.{Writes}
+use Rattle.report_text.specs.Texts.{joined, band_text}
 use Rattle.answer_text.specs.Answers.{bands_in}
-use Rattle.answer_text.proofs.Laws.{item, all_taken}
 use Rattle.answer_text.proofs.put_bands.Given as goal
 
 abbrev pub invariant-loop-i : goal.invariant-loop-i

@@ -1,5 +1,4 @@
 -- `put_baseline_list`: by whether there is a baseline.
-use borrow.Author.Rules.{rules}
 use Rattle.report_text.proofs.Writing.{as_text, same_room}
 use Rattle.report_text.specs.Pieces.{baseline_list}
 use Rattle.answer_text.proofs.put_baseline_list.Goals as goal

@@ -1,5 +1,4 @@
 -- `put_report`: where a report stands.
-use borrow.Author.Rules.{rules}
 use mathlib.Core.Path.{sym, ap, subst}
 use Rattle.editing.specs.Meaning.{state}
 use Rattle.report.specs.Reading.{Shows, report_in}

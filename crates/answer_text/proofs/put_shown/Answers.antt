@@ -1,6 +1,4 @@
 -- `put_shown`: part by part.
-use borrow.Author.Rules.{rules}
-use mathlib.Core.Path.{◌≡◌}
 use Rattle.report_text.proofs.Writing.{then, as_text, same_room}
 use Rattle.answer_text.proofs.Laws.{whole_text}
 use Rattle.answer_text.proofs.put_shown.Goals as goal

@@ -1,5 +1,4 @@
 -- `result`: by which list it is of.
-use borrow.Author.Rules.{rules}
 use mathlib.Core.Path.{ap, ◌∙◌}
 use mathlib.Core.Bool.{Bool}
 use Rattle.report.specs.Places.{nth}

@@ -1,11 +1,11 @@
 -- `inserted`: below `k` the array has the places of the longer list, and `carried` is the next of it.
-use Prim.Native.Nat.{ℕ, suc, ◌≤◌, ◌<◌, ◌+◌, ◌-◌}
+use Prim.Native.Nat.{ℕ, suc}
 use mathlib.Core.Path.{◌≡◌, sym, ap, ◌∙◌}
 use mathlib.Core.List.{List}
 use native.Mathlib.Numerals.{add-one}
 use native.Mathlib.Omega.{arith}
 use borrow.Author.Rules.{rules}
-use lib.ListN.{length, take, get_or, length-set, length-take}
+use lib.ListN.{length, take, length-set, length-take}
 use lib.Ieee.{Float, nan}
 use Rattle.definition.specs.Lists.{insert_at}
 use Rattle.slices.specs.Slices.{laid_over}

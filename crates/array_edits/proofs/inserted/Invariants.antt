@@ -1,16 +1,10 @@
 -- `inserted`: below `k` the array has the places of the longer list, and `carried` is the next of it.
-use Prim.Native.Nat.{ℕ, suc, ◌≤◌, ◌<◌, ◌+◌, ◌-◌}
-use mathlib.Core.Path.{◌≡◌, sym, ap, ◌∙◌}
-use mathlib.Core.List.{List}
-use native.Mathlib.Numerals.{add-one}
-use native.Mathlib.Omega.{arith}
-use borrow.Author.Rules.{rules}
-use lib.ListN.{length, take, get_or, length-set, length-take}
-use lib.Ieee.{Float, nan}
+use Prim.Native.Nat.{◌≤◌, ◌+◌, ◌-◌}
+use mathlib.Core.Path.{◌≡◌}
+use lib.ListN.{length, take, get_or}
+use lib.Ieee.{nan}
 use Rattle.definition.specs.Lists.{insert_at}
 use Rattle.slices.specs.Slices.{laid_over}
-use Rattle.likelihood.proofs.Laws.{over_suc, over_past}
-use Rattle.array_edits.proofs.Laws.{insert_length, insert_start, insert_at_lem, insert_past, insert_take, inserted_is, inserted_beyond, inserted_full}
 use Rattle.array_edits.proofs.inserted.Given as goal
 
 abbrev pub invariant-loop-k : goal.invariant-loop-k

@@ -1,16 +1,9 @@
 -- `removed`: below `to` the array has the places of the shorter list.
-use Prim.Native.Nat.{ℕ, suc, ◌≤◌, ◌<◌, ◌-◌}
-use mathlib.Core.Path.{◌≡◌, sym, ap, ◌∙◌}
-use mathlib.Core.List.{List}
-use native.Mathlib.Numerals.{add-one}
-use native.Mathlib.Omega.{arith}
-use borrow.Author.Rules.{rules}
-use lib.ListN.{length, take, get_or, set, length-set, length-take}
-use lib.Ieee.{Float, nan}
+use Prim.Native.Nat.{◌≤◌, ◌-◌}
+use mathlib.Core.Path.{◌≡◌}
+use lib.ListN.{length, take}
 use Rattle.definition.specs.Lists.{remove_at}
 use Rattle.slices.specs.Slices.{laid_over}
-use Rattle.likelihood.proofs.Laws.{over_suc, over_past}
-use Rattle.array_edits.proofs.Laws.{remove_length, remove_start, remove_past, remove_take, removed_is, removed_beyond, removed_full}
 use Rattle.array_edits.proofs.removed.Given as goal
 
 abbrev pub invariant-loop-to : goal.invariant-loop-to

@@ -1,5 +1,4 @@
 -- `bands::band` meets its contract, by those of the two intervals. Assumes nothing.
-use borrow.Author.Rules.{rules}
 use Rattle.definition.specs.Summary.{band_of}
 use Rattle.bands.proofs.band.Goals as goal
 

@@ -4,7 +4,6 @@ use mathlib.Core.Path.{◌≡◌}
 use mathlib.Core.Bool.{true}
 use mathlib.Core.Option.{some}
 use lib.Ieee.{Float, le}
-use borrow.Author.Rules.{rules}
 use Rattle.numeric.specs.Numeric.{zero64, two64}
 use Rattle.matrix.specs.declared.Symmetric2.{Symmetric2}
 use Rattle.definition.specs.Constants.{◌⊕◌, ◌⊗◌}

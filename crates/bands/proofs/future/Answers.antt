@@ -1,5 +1,4 @@
 -- `bands::future` meets its contract, by cases, and the contract of `from_variance`. Assumes nothing.
-use borrow.Author.Rules.{rules}
 use Rattle.definition.specs.Summary.{future_of}
 use Rattle.bands.proofs.future.Goals as goal
 

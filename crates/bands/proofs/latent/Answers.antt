@@ -1,5 +1,4 @@
 -- `bands::latent` meets its contract, by those of `band_variance` and `from_variance`. Assumes nothing.
-use borrow.Author.Rules.{rules}
 use Rattle.definition.specs.Summary.{latent_of}
 use Rattle.bands.proofs.latent.Goals as goal
 

@@ -1,5 +1,4 @@
 -- `bands::latent_with` meets its contract, by that of `latent`, where there is an approximation. Assumes nothing.
-use borrow.Author.Rules.{rules}
 use Rattle.bands.proofs.latent_with.Goals as goal
 
 pub returns-in-Available : goal.returns-in-Available

@@ -1,13 +1,8 @@
 -- `column`: the first `i` doubles are laid over zeros.
-use Prim.Native.Nat.{◌*◌, ◌+◌, ◌≤◌, ◌<◌, ◌-◌}
-use mathlib.Core.Path.{◌≡◌, refl, ◌∙◌}
+use mathlib.Core.Path.{refl, ◌∙◌}
 use native.Mathlib.Numerals.{add-one}
 use native.Mathlib.Omega.{arith}
-use borrow.Author.Rules.{rules}
-use lib.ListN.{length, take, replicate, length-set}
-use Rattle.numeric.specs.Numeric.{zero64}
-use Rattle.slices.specs.Slices.{laid_over}
-use Rattle.c_api.specs.Desk.{column_of}
+use lib.ListN.{length-set}
 use Rattle.c_api.proofs.Laws.{stride_within, column_suc, column_all}
 use Rattle.c_api.proofs.column.Goals as goal
 

@@ -3,7 +3,6 @@ use mathlib.Core.Path.{ap, ◌∙◌}
 use Prim.Native.Nat.{ℕ}
 use lib.Ieee.{binary64, of_bits}
 use Rattle.c_api.proofs.Laws.{read_8}
-use borrow.Author.Rules.{rules}
 use Rattle.c_api.proofs.double_at.Goals as goal
 
 pub returns : goal.returns

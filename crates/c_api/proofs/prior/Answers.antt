@@ -1,5 +1,4 @@
 -- `prior`: by cases of the flag.
-use borrow.Author.Rules.{rules}
 use Rattle.c_api.proofs.prior.Goals as goal
 
 pub returns-then-given : goal.returns-then-given

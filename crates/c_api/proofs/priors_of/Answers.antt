@@ -1,6 +1,5 @@
 -- `priors_of`: each prior by its bit.
 use Rattle.c_api.specs.Desk.{priors_of}
-use borrow.Author.Rules.{rules}
 use Rattle.c_api.proofs.priors_of.Goals as goal
 
 pub returns : goal.returns

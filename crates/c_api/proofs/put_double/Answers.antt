@@ -1,12 +1,10 @@
 -- `put_double`: what is left of the bytes goes over what is written so far.
-use Prim.Native.Nat.{ℕ, ◌+◌, ◌-◌, ◌%◌, ◌≤◌}
+use Prim.Native.Nat.{ℕ, ◌-◌, ◌%◌}
 use mathlib.Core.List.{List}
 use mathlib.Core.Path.{◌≡◌, refl, sym, ap, ◌∙◌}
-use native.Mathlib.Nat.{mod-lt}
 use native.Mathlib.Omega.{arith}
-use borrow.Author.Rules.{rules}
-use lib.ListN.{length, length-set}
-use Rattle.c_api.specs.Desk.{lowest, double_bytes, put_at}
+use lib.ListN.{length-set}
+use Rattle.c_api.specs.Desk.{lowest, put_at}
 use Rattle.c_api.proofs.Laws.{put_none, put_next, double_lowest}
 use Rattle.c_api.proofs.put_double.Goals as goal
 

@@ -1,13 +1,8 @@
 -- `put_double`: what is left of the bytes goes over what is written so far.
-use Prim.Native.Nat.{ℕ, ◌+◌, ◌-◌, ◌%◌, ◌≤◌}
-use mathlib.Core.List.{List}
-use mathlib.Core.Path.{◌≡◌, refl, sym, ap, ◌∙◌}
-use native.Mathlib.Nat.{mod-lt}
-use native.Mathlib.Omega.{arith}
-use borrow.Author.Rules.{rules}
-use lib.ListN.{length, length-set}
+use Prim.Native.Nat.{◌+◌}
+use mathlib.Core.Path.{◌≡◌}
+use lib.ListN.{length}
 use Rattle.c_api.specs.Desk.{lowest, double_bytes, put_at}
-use Rattle.c_api.proofs.Laws.{put_none, put_next, double_lowest}
 use Rattle.c_api.proofs.put_double.Given as goal
 
 abbrev pub invariant-loop-left : goal.invariant-loop-left

@@ -1,6 +1,5 @@
 -- `put_inverse`: four doubles, each after the one before it.
 use Rattle.c_api.proofs.Laws.{put_4}
-use borrow.Author.Rules.{rules}
 use Rattle.c_api.proofs.put_inverse.Goals as goal
 
 pub returns : goal.returns

@@ -8,7 +8,6 @@ use Rattle.numeric.specs.Numeric.{zero64}
 use Rattle.slices.specs.Slices.{laid_over}
 use Rattle.c_api.specs.Desk.{column_of}
 use Rattle.c_api.proofs.Laws.{column_take, sum_by}
-use borrow.Author.Rules.{rules}
 use Rattle.c_api.proofs.sum.Goals as goal
 
 -- the places in use of a column's array

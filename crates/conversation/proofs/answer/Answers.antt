@@ -1,7 +1,6 @@
 -- `answer`: the line in its number and place, and its answer whole in the buffer.
-use borrow.Author.Rules.{rules}
 use Rattle.report_text.proofs.Writing.{same_room}
-use Rattle.conversation.specs.Conversation.{next_line, answer_to}
+use Rattle.conversation.specs.Conversation.{next_line}
 use Rattle.conversation.proofs.Responses.{answered_fills}
 use Rattle.conversation.proofs.answer.Goals as goal
 

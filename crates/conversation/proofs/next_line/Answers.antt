@@ -1,5 +1,4 @@
 use Rattle.conversation.proofs.Responses.{next_more, next_full}
-use borrow.Author.Rules.{rules}
 use Rattle.conversation.proofs.next_line.Goals as goal
 
 pub returns-then-lines-lt18446744073709551615 : goal.returns-then-lines-lt18446744073709551615

@@ -1,6 +1,4 @@
-use Rattle.answer_text.specs.Answers.{answer_text}
 use Rattle.report_text.proofs.Writing.{then}
-use borrow.Author.Rules.{rules}
 use Rattle.conversation.proofs.put_malformed.Goals as goal
 
 pub returns : goal.returns

@@ -1,5 +1,4 @@
 -- `conversation::put_page` meets its contract. Assumes nothing.
-use borrow.Author.Rules.{rules}
 use Rattle.conversation.proofs.Responses.{page_head}
 use Rattle.report_text.proofs.Writing.{then, as_text, same_room}
 use Rattle.conversation.proofs.put_page.Goals as goal

@@ -1,7 +1,6 @@
 use Rattle.conversation.specs.Tracks.{response_text}
-use Rattle.report_text.proofs.Writing.{as_text, same_room}
+use Rattle.report_text.proofs.Writing.{as_text}
 use mathlib.Core.Path.{sym, ap}
-use borrow.Author.Rules.{rules}
 use Rattle.conversation.proofs.put_response.Goals as goal
 
 pub returns-in-Nothing : goal.returns-in-Nothing

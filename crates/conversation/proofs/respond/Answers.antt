@@ -1,6 +1,5 @@
 use Rattle.conversation.specs.Conversation.{answer_to}
 use Rattle.conversation.proofs.Responses.{by_form}
-use borrow.Author.Rules.{rules}
 use Rattle.conversation.proofs.respond.Goals as goal
 
 pub returns-in-Malformed : goal.returns-in-Malformed

@@ -3,7 +3,6 @@ use Rattle.conversation.specs.Conversation.{no_request}
 use Rattle.editing.proofs.Contracts.{Opened}
 use Rattle.definition.specs.Request.{Opening}
 use mathlib.Core.Path.{refl, subst}
-use borrow.Author.Rules.{rules}
 use Rattle.conversation.proofs.start.Goals as goal
 
 pub returns : goal.returns

@@ -1,6 +1,5 @@
 use Rattle.conversation.specs.Conversation.{answer_to}
 use Rattle.conversation.proofs.Responses.{asked_responds}
-use borrow.Author.Rules.{rules}
 use Rattle.conversation.proofs.take_asked.Goals as goal
 
 pub returns : goal.returns

@@ -1,10 +1,9 @@
 use Rattle.definition.specs.Meaning.{number_of}
-use Rattle.conversation.specs.declared.Section.TheVariants.{Shots, Priors, Distances}
-use Rattle.requests.specs.Request.{with_shot, with_speed, with_coefficient, with_distance, normal, requested_with}
-use Rattle.conversation.specs.Conversation.{answer_to, collected, takes_shot, takes_coefficient, takes_distance}
+use Rattle.conversation.specs.declared.Section.TheVariants.{Distances}
+use Rattle.requests.specs.Request.{with_distance, requested_with}
+use Rattle.conversation.specs.Conversation.{answer_to, collected, takes_distance}
 use Rattle.conversation.proofs.Responses.{late, timely}
 use borrow.Author.Tests.{not-true, not-false}
-use borrow.Author.Rules.{rules}
 use Rattle.conversation.proofs.take_distance.Goals as goal
 
 pub returns-then-not-is_collecting : goal.returns-then-not-is_collecting

@@ -6,9 +6,8 @@ use lib.ListN.{length, take, length-take}
 use mathlib.Core.List.{List}
 use mathlib.Core.Bool.{Bool}
 use mathlib.Core.Path.{◌≡◌, sym, ap, ◌∙◌, subst}
-use Prim.Native.Nat.{ℕ, min}
+use Prim.Native.Nat.{min}
 use Rattle.conversation.proofs.Responses.{replied_same}
-use borrow.Author.Rules.{rules}
 use Rattle.conversation.proofs.take_drops.Goals as goal
 
 pub returns : goal.returns

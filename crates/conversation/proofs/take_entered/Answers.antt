@@ -1,5 +1,4 @@
 use Rattle.conversation.specs.Conversation.{answer_to}
-use borrow.Author.Rules.{rules}
 use Rattle.conversation.proofs.take_entered.Goals as goal
 
 pub returns : goal.returns

@@ -2,8 +2,7 @@ use Rattle.definition.specs.Meaning.{number_of}
 use Rattle.requests.specs.Request.{requested_with}
 use Rattle.conversation.specs.Conversation.{answer_to}
 use Rattle.definition.specs.Whole as edits
-use Rattle.demands.specs.Calls.{refuse_point, change}
-use borrow.Author.Rules.{rules}
+use Rattle.demands.specs.Calls.{change}
 use Rattle.conversation.proofs.take_exchange.Goals as goal
 
 pub returns : goal.returns

@@ -1,7 +1,6 @@
 use Rattle.conversation.specs.Conversation.{answer_to, opens, takes_distance}
 use Rattle.conversation.proofs.Responses.{late, timely, open_responds}
 use borrow.Author.Tests.{not-true, not-false}
-use borrow.Author.Rules.{rules}
 use Rattle.conversation.proofs.take_open.Goals as goal
 
 pub returns-then-not-is_collecting : goal.returns-then-not-is_collecting

@@ -1,7 +1,5 @@
 use Rattle.conversation.specs.Conversation.{answer_to}
-use Rattle.definition.specs.Whole as edits
-use Rattle.demands.specs.Calls.{refuse_point, change}
-use borrow.Author.Rules.{rules}
+use Rattle.demands.specs.Calls.{refuse_point}
 use Rattle.conversation.proofs.take_refused.Goals as goal
 
 pub returns : goal.returns

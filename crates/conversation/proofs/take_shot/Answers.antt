@@ -1,9 +1,8 @@
-use Rattle.conversation.specs.declared.Section.TheVariants.{Shots, Priors, Distances}
-use Rattle.requests.specs.Request.{with_shot, with_speed, with_coefficient, with_distance, normal, requested_with}
-use Rattle.conversation.specs.Conversation.{answer_to, collected, takes_shot, takes_coefficient, takes_distance}
+use Rattle.conversation.specs.declared.Section.TheVariants.{Shots}
+use Rattle.requests.specs.Request.{with_shot}
+use Rattle.conversation.specs.Conversation.{answer_to, collected, takes_shot}
 use Rattle.conversation.proofs.Responses.{late, timely}
 use borrow.Author.Tests.{not-true, not-false}
-use borrow.Author.Rules.{rules}
 use Rattle.conversation.proofs.take_shot.Goals as goal
 
 pub returns-then-not-takes_shots : goal.returns-then-not-takes_shots

@@ -1,7 +1,6 @@
 use Rattle.conversation.specs.Conversation.{answer_to}
 use Rattle.definition.specs.Whole as edits
-use Rattle.demands.specs.Calls.{refuse_point, change}
-use borrow.Author.Rules.{rules}
+use Rattle.demands.specs.Calls.{change}
 use Rattle.conversation.proofs.take_take_out.Goals as goal
 
 pub returns : goal.returns

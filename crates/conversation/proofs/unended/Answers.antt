@@ -1,7 +1,6 @@
 -- `unended`: the number is that of the next line.
 use Prim.Native.Nat.{ℕ}
 use mathlib.Core.Path.{ap, subst}
-use borrow.Author.Rules.{rules}
 use Rattle.report_text.specs.Texts.{malformed_text}
 use Rattle.report_text.proofs.Writing.{same_room}
 use Rattle.answer_text.specs.Answers.{line}

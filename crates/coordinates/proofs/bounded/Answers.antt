@@ -1,5 +1,4 @@
 -- `bounded` meets its contract, each part by `clamp`'s contract. Assumes nothing.
-use borrow.Author.Rules.{rules}
 use Rattle.definition.specs.Mesh.{bounded_of}
 use Rattle.coordinates.proofs.bounded.Goals as goal
 

@@ -1,5 +1,4 @@
 -- `after_reply`: by the number of the reply, then by the gap.
-use borrow.Author.Rules.{rules}
 use mathlib.Core.Path.{refl, subst}
 use Rattle.lists.specs.Changing.{edit_of, rows_from}
 use Rattle.session.specs.Changing.{Changed}

@@ -1,5 +1,4 @@
 -- `baseline_result`: the run's, or none while an edit has a question open.
-use borrow.Author.Rules.{rules}
 use Rattle.editing.proofs.Calls.{run_baseline, open_baseline}
 use Rattle.editing.proofs.baseline_result.Goals as goal
 

@@ -1,5 +1,4 @@
 -- `exchange`: 14, 15 and 7 in order, then the first question.
-use borrow.Author.Rules.{rules}
 use mathlib.Core.Path.{sym, ◌∙◌}
 use borrow.Author.Tests.{not-false}
 use Rattle.definition.specs.Meaning.{requested_of}

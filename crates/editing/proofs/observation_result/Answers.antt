@@ -1,5 +1,4 @@
 -- `observation_result`: the run's, or none while an edit has a question open.
-use borrow.Author.Rules.{rules}
 use Rattle.editing.proofs.Calls.{run_result, open_result}
 use Rattle.editing.proofs.observation_result.Goals as goal
 

@@ -1,5 +1,4 @@
 -- `open`: the run's.
-use borrow.Author.Rules.{rules}
 use Rattle.editing.proofs.Calls.{run_opened}
 use Rattle.editing.proofs.open.Goals as goal
 

@@ -1,5 +1,4 @@
 -- `open_point`: where the run stands and the edit fits its list.
-use borrow.Author.Rules.{rules}
 use Rattle.lists.specs.Changing.{edit_of}
 use Rattle.editing.proofs.Laws.{point_unfitted, point_here, point_absent}
 use Rattle.editing.proofs.open_point.Goals as goal

@@ -1,5 +1,4 @@
 -- `predictive_band`: the run's, or none while an edit has a question open.
-use borrow.Author.Rules.{rules}
 use Rattle.editing.proofs.Calls.{run_band, open_band}
 use Rattle.editing.proofs.predictive_band.Goals as goal
 

@@ -1,5 +1,4 @@
 -- `put_in`: 14, 15, 6 and 7 in order, then the first question.
-use borrow.Author.Rules.{rules}
 use mathlib.Core.Path.{sym, ◌∙◌}
 use borrow.Author.Tests.{not-false}
 use Rattle.definition.specs.Meaning.{requested_of}

@@ -1,5 +1,4 @@
 -- `refuse`: the run's, or the open edit's.
-use borrow.Author.Rules.{rules}
 use Rattle.editing.proofs.Calls.{run_refused, edit_refused}
 use Rattle.editing.proofs.refuse.Goals as goal
 

@@ -1,5 +1,4 @@
 -- `refuse_new`: where the edit has a question open.
-use borrow.Author.Rules.{rules}
 use mathlib.Core.Path.{sym, ap, ◌∙◌}
 use Rattle.editing.specs.Meaning.{point_says}
 use Rattle.editing.proofs.Calls.{no_refusal, point_refused}

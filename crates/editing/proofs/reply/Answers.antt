@@ -1,5 +1,4 @@
 -- `reply`: the run's, or the open edit's.
-use borrow.Author.Rules.{rules}
 use Rattle.editing.proofs.Calls.{run_replied, edit_replied}
 use Rattle.editing.proofs.reply.Goals as goal
 

@@ -1,5 +1,4 @@
 -- `reply_new`: where the edit has a question open.
-use borrow.Author.Rules.{rules}
 use mathlib.Core.Path.{sym, ap, ◌∙◌}
 use borrow.Author.Tests.{not-false}
 use Rattle.editing.specs.Meaning.{point_says}

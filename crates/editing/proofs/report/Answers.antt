@@ -1,5 +1,4 @@
 -- `report`: the run's, or none while an edit has a question open.
-use borrow.Author.Rules.{rules}
 use Rattle.editing.proofs.Calls.{run_report, open_report}
 use Rattle.editing.proofs.report.Goals as goal
 

@@ -1,5 +1,4 @@
 -- `standing_fit`: the run's, or none while an edit has a question open.
-use borrow.Author.Rules.{rules}
 use Rattle.editing.proofs.Calls.{run_fitted, open_fitted}
 use Rattle.editing.proofs.standing_fit.Goals as goal
 

@@ -1,5 +1,4 @@
 -- `take_out`: 14 and 15 in order, then the report.
-use borrow.Author.Rules.{rules}
 use mathlib.Core.Path.{sym, ◌∙◌}
 use borrow.Author.Tests.{not-false}
 use Rattle.definition.specs.Whole.{take_out}

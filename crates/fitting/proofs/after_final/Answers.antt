@@ -1,6 +1,5 @@
 -- `after_final`: by whether the gradient is flat.
 use mathlib.Core.Path.{sym, ◌∙◌}
-use borrow.Author.Rules.{rules}
 use Rattle.fitting.proofs.Laws.{final_flat, final_mesh}
 use Rattle.fitting.proofs.after_final.Goals as goal
 

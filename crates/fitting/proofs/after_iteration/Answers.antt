@@ -1,6 +1,5 @@
 -- `after_iteration`: by whether the gradient is flat.
 use mathlib.Core.Path.{sym, ◌∙◌}
-use borrow.Author.Rules.{rules}
 use Rattle.fitting.proofs.Laws.{iteration_flat, iteration_trials}
 use Rattle.fitting.proofs.after_iteration.Goals as goal
 

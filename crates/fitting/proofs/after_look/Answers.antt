@@ -1,6 +1,5 @@
 -- `after_look`: the poll goes on with one evaluation more.
 use mathlib.Core.Path.{◌∙◌}
-use borrow.Author.Rules.{rules}
 use Rattle.fitting.proofs.Laws.{look_seen}
 use Rattle.fitting.proofs.after_look.Goals as goal
 

@@ -1,6 +1,5 @@
 -- `after_mesh`: the poll from its first pass.
 use mathlib.Core.Path.{◌∙◌}
-use borrow.Author.Rules.{rules}
 use Rattle.fitting.proofs.Laws.{mesh_poll}
 use Rattle.fitting.proofs.after_mesh.Goals as goal
 

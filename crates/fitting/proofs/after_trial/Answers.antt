@@ -1,6 +1,5 @@
 -- `after_trial`: by whether the gain is material.
 use mathlib.Core.Path.{sym, ◌∙◌}
-use borrow.Author.Rules.{rules}
 use Rattle.fitting.proofs.Laws.{trial_accepted, trial_rejected}
 use Rattle.fitting.proofs.after_trial.Goals as goal
 

@@ -1,6 +1,5 @@
 -- `next_candidate`: by the next trial that is asked about, or none.
 use mathlib.Core.Path.{sym, ◌∙◌}
-use borrow.Author.Rules.{rules}
 use Rattle.fitting.proofs.Laws.{candidate_next, candidate_none}
 use Rattle.fitting.proofs.next_candidate.Goals as goal
 

@@ -1,5 +1,4 @@
 -- `next_iteration`: by whether an iteration is left.
-use borrow.Author.Rules.{rules}
 use Rattle.fitting.proofs.Laws.{last_iteration, another_iteration}
 use Rattle.fitting.proofs.next_iteration.Goals as goal
 

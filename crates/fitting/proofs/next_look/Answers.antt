@@ -1,6 +1,5 @@
 -- `next_look`: by the limit of evaluations, and by the next step of the poll.
 use mathlib.Core.Path.{sym, ap, ◌∙◌}
-use borrow.Author.Rules.{rules}
 use Rattle.objective_mesh.specs.Meaning.{says}
 use Rattle.fitting.proofs.Laws.{poll_stopped, poll_looks, poll_ended}
 use Rattle.fitting.proofs.next_look.Goals as goal

@@ -1,6 +1,5 @@
 -- `start`: the first of a hundred iterations.
 use mathlib.Core.Path.{◌∙◌, ap}
-use borrow.Author.Rules.{rules}
 use Rattle.definition.specs.Constants.{first_damping}
 use Rattle.definition.specs.Run.{bind}
 use Rattle.definition.specs.Fit.{iterate}

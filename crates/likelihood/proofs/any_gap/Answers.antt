@@ -1,14 +1,10 @@
 -- `any_gap` meets its contract: as long as no flag was found, up to `i` no entry is missing. Assumes nothing.
-use Prim.Native.Nat.{ℕ, suc, ◌≤◌, ◌<◌, ◌-◌, min}
+use Prim.Native.Nat.{ℕ}
 use mathlib.Core.Path.{◌≡◌, refl}
 use mathlib.Core.Bool.{Bool, true, false, ◌||◌}
 use native.Mathlib.Numerals.{add-one}
 use native.Mathlib.Omega.{arith}
-use borrow.Author.Rules.{rules}
-use lib.ListN.{length, take}
 use lib.Seq.{take_all}
-use Rattle.definition.specs.Lists.{first_at}
-use Rattle.definition.specs.Run.{is_missing}
 use Rattle.definition.specs.Session.{entries_of}
 use Rattle.likelihood.proofs.Laws.{unset_here, entries_length}
 use Rattle.likelihood.proofs.any_gap.Goals as goal

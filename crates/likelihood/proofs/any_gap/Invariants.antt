@@ -1,16 +1,11 @@
 -- `any_gap` meets its contract: as long as no flag was found, up to `i` no entry is missing. Assumes nothing.
-use Prim.Native.Nat.{ℕ, suc, ◌≤◌, ◌<◌, ◌-◌, min}
-use mathlib.Core.Path.{◌≡◌, refl}
-use mathlib.Core.Bool.{Bool, true, false, ◌||◌}
-use native.Mathlib.Numerals.{add-one}
-use native.Mathlib.Omega.{arith}
-use borrow.Author.Rules.{rules}
+use Prim.Native.Nat.{◌≤◌, ◌-◌, min}
+use mathlib.Core.Path.{◌≡◌}
+use mathlib.Core.Bool.{false}
 use lib.ListN.{length, take}
-use lib.Seq.{take_all}
 use Rattle.definition.specs.Lists.{first_at}
 use Rattle.definition.specs.Run.{is_missing}
 use Rattle.definition.specs.Session.{entries_of}
-use Rattle.likelihood.proofs.Laws.{unset_here, entries_length}
 use Rattle.likelihood.proofs.any_gap.Given as goal
 
 abbrev pub invariant-loop-i : goal.invariant-loop-i

@@ -1,5 +1,4 @@
 -- `bc_plus` meets its contract, by that of `bc_step`. Assumes nothing.
-use borrow.Author.Rules.{rules}
 use Rattle.definition.specs.Likelihood.{bc_plus_at}
 use Rattle.likelihood.proofs.bc_plus.Goals as goal
 

@@ -1,5 +1,4 @@
 -- `bc_step` meets its contract, by that of `numeric::max`. Assumes nothing.
-use borrow.Author.Rules.{rules}
 use Rattle.definition.specs.Likelihood.{bc_step_of}
 use Rattle.likelihood.proofs.bc_step.Goals as goal
 

@@ -1,5 +1,4 @@
 -- `finished` meets its contract, by those of the parts that it calls. Assumes nothing.
-use borrow.Author.Rules.{rules}
 use Rattle.definition.specs.Likelihood.{from_sums}
 use Rattle.likelihood.proofs.finished.Goals as goal
 

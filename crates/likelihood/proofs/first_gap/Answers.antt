@@ -1,14 +1,9 @@
 -- `first_gap` meets its contract: none is missing, or up to `i` none is. Assumes nothing.
-use Prim.Native.Nat.{ℕ, suc, ◌≤◌, ◌<◌, ◌-◌, min}
-use mathlib.Core.Path.{◌≡◌, refl, sym, ap, ◌∙◌}
+use mathlib.Core.Path.{refl, sym, ◌∙◌}
 use native.Mathlib.Numerals.{add-one}
 use native.Mathlib.Omega.{arith}
-use borrow.Author.Rules.{rules}
 use borrow.Author.Tests.{not-true}
-use lib.ListN.{length, take}
 use lib.Seq.{take_all}
-use Rattle.definition.specs.Lists.{first_at}
-use Rattle.definition.specs.Run.{is_missing}
 use Rattle.definition.specs.Session.{entries_of}
 use Rattle.likelihood.proofs.Laws.{set_here, unset_here, entries_length}
 use Rattle.likelihood.proofs.first_gap.Goals as goal

@@ -1,8 +1,7 @@
 -- `first_of` meets its contract, by cases on the two positions. Assumes nothing.
 use Prim.Native.Nat.{ℕ, zero, suc, ◌≤◌, ◌<◌}
-use mathlib.Core.Path.{◌≡◌, refl, sym, ap}
+use mathlib.Core.Path.{◌≡◌, refl}
 use native.Mathlib.Omega.{arith}
-use borrow.Author.Rules.{rules}
 use Rattle.definition.specs.Lists.{first_of}
 use Rattle.likelihood.proofs.first_of.Goals as goal
 

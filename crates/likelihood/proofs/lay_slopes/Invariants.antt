@@ -1,18 +1,12 @@
 -- `lay_slopes` meets its contract: the first `i` slopes are laid over the slice, and the drops after them are still there. Assumes nothing.
-use Prim.Native.Nat.{ℕ, suc, ◌≤◌, ◌<◌, ◌-◌, min}
-use mathlib.Core.Path.{◌≡◌, refl, sym, ap, ◌∙◌}
-use mathlib.Core.Bool.{Bool, false}
-use mathlib.Core.List.{List, map}
-use native.Mathlib.Numerals.{add-one}
-use native.Mathlib.Omega.{arith}
-use borrow.Author.Rules.{rules}
-use lib.ListN.{length, get_or, take, set, length-set, length-take}
-use lib.Ieee.{Float, nan}
+use Prim.Native.Nat.{◌≤◌, ◌-◌, min}
+use mathlib.Core.Path.{◌≡◌}
+use mathlib.Core.List.{map}
+use lib.ListN.{length, take}
 use Rattle.definition.specs.Run.{drop_or0}
-use Rattle.definition.specs.Likelihood.{slope, slopes}
-use Rattle.definition.specs.Session.{entry_of, entries_of}
-use Rattle.slices.specs.Slices.{shortest_of, laid_over}
-use Rattle.likelihood.proofs.Laws.{over_suc, over_all, over_past, zip_at, zip_length, drops_length, drops_at}
+use Rattle.definition.specs.Likelihood.{slopes}
+use Rattle.definition.specs.Session.{entries_of}
+use Rattle.slices.specs.Slices.{laid_over}
 use Rattle.likelihood.proofs.lay_slopes.Given as goal
 
 abbrev pub invariant-loop-i : goal.invariant-loop-i

@@ -1,5 +1,4 @@
 -- `mv_minus` meets its contract, by that of `mv_step`. Assumes nothing.
-use borrow.Author.Rules.{rules}
 use Rattle.definition.specs.Likelihood.{mv_minus_at}
 use Rattle.likelihood.proofs.mv_minus.Goals as goal
 

@@ -1,5 +1,4 @@
 -- `mv_plus` meets its contract, by that of `mv_step`. Assumes nothing.
-use borrow.Author.Rules.{rules}
 use Rattle.definition.specs.Likelihood.{mv_plus_at}
 use Rattle.likelihood.proofs.mv_plus.Goals as goal
 

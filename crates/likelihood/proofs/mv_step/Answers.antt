@@ -1,5 +1,4 @@
 -- `mv_step` meets its contract, by that of `numeric::max`. Assumes nothing.
-use borrow.Author.Rules.{rules}
 use Rattle.definition.specs.Likelihood.{mv_step_of}
 use Rattle.likelihood.proofs.mv_step.Goals as goal
 

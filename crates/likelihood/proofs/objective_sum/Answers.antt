@@ -1,5 +1,4 @@
 -- `objective_sum` meets its contract, by those of the two functions that it calls. Assumes nothing.
-use borrow.Author.Rules.{rules}
 use Rattle.likelihood.proofs.objective_sum.Goals as goal
 
 pub returns : goal.returns

@@ -1,5 +1,4 @@
 -- `prior_information` meets its contract, by cases on the prior. Assumes nothing.
-use borrow.Author.Rules.{rules}
 use Rattle.definition.specs.Likelihood.{prior_information_of}
 use Rattle.likelihood.proofs.prior_information.Goals as goal
 

@@ -1,5 +1,4 @@
 -- `sensitivity_ratio` meets its contract, by its test and that of `root::root`. Assumes nothing.
-use borrow.Author.Rules.{rules}
 use Rattle.definition.specs.Likelihood.{sensitivity_ratio_of}
 use Rattle.likelihood.proofs.sensitivity_ratio.Goals as goal
 

@@ -1,10 +1,9 @@
 -- `sum_rows` meets its contract: the sums are those of the first `i` observations and rows. Assumes nothing.
-use Prim.Native.Nat.{ℕ, suc, ◌≤◌, ◌<◌, ◌-◌, min}
+use Prim.Native.Nat.{ℕ, suc, ◌<◌}
 use mathlib.Core.Path.{◌≡◌, refl, sym, ap, ◌∙◌}
 use mathlib.Core.List.{List}
 use native.Mathlib.Numerals.{add-one}
 use native.Mathlib.Omega.{arith}
-use borrow.Author.Rules.{rules}
 use lib.ListN.{length, get_or, take}
 use lib.Ieee.{Float, nan}
 use Rattle.definition.specs.Lists.{fold_pairs, zip_with3}

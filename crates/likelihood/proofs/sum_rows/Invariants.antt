@@ -1,20 +1,10 @@
 -- `sum_rows` meets its contract: the sums are those of the first `i` observations and rows. Assumes nothing.
-use Prim.Native.Nat.{ℕ, suc, ◌≤◌, ◌<◌, ◌-◌, min}
-use mathlib.Core.Path.{◌≡◌, refl, sym, ap, ◌∙◌}
-use mathlib.Core.List.{List}
-use native.Mathlib.Numerals.{add-one}
-use native.Mathlib.Omega.{arith}
-use borrow.Author.Rules.{rules}
-use lib.ListN.{length, get_or, take}
-use lib.Ieee.{Float, nan}
+use Prim.Native.Nat.{◌≤◌, ◌-◌, min}
+use mathlib.Core.Path.{◌≡◌}
+use lib.ListN.{length, take}
 use Rattle.definition.specs.Lists.{fold_pairs, zip_with3}
-use Rattle.definition.specs.Request.{Observation}
-use Rattle.definition.specs.Likelihood.{row_of, no_sums, with_row, sums_of}
-use Rattle.definition.specs.declared.Point.{Point}
-use Rattle.definition.specs.declared.Row.{Row}
-use Rattle.definition.specs.declared.Sums.{Sums}
-use Rattle.definition.specs.Meaning.{observation_of, observations_of}
-use Rattle.likelihood.proofs.Laws.{fold_suc, fold_all, zip3_at, zip3_shortest, zip3_within}
+use Rattle.definition.specs.Likelihood.{row_of, no_sums, with_row}
+use Rattle.definition.specs.Meaning.{observations_of}
 use Rattle.likelihood.proofs.sum_rows.Given as goal
 
 abbrev pub invariant-loop-i : goal.invariant-loop-i

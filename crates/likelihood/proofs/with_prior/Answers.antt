@@ -1,5 +1,4 @@
 -- `with_prior` meets its contract, by cases on the prior. Assumes nothing.
-use borrow.Author.Rules.{rules}
 use Rattle.definition.specs.Likelihood.{with_prior_of}
 use Rattle.likelihood.proofs.with_prior.Goals as goal
 

@@ -1,5 +1,4 @@
 -- `with_priors` meets its contract, by that of `with_prior`, twice. Assumes nothing.
-use borrow.Author.Rules.{rules}
 use Rattle.definition.specs.Likelihood.{with_priors_of}
 use Rattle.likelihood.proofs.with_priors.Goals as goal
 

@@ -1,5 +1,4 @@
 -- `lines::entered` meets its contract. Assumes nothing.
-use borrow.Author.Rules.{rules}
 use borrow.Author.Tests.{eq-eqb, ne_eqb}
 use Rattle.lines.specs.Reading.{entered_in}
 use Rattle.lines.specs.Lines.{entered_of}

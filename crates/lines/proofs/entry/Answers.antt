@@ -1,5 +1,4 @@
 -- `lines::entry` meets its contract. Assumes nothing.
-use borrow.Author.Rules.{rules}
 use Rattle.lines.proofs.entry.Goals as goal
 
 pub returns-in-Double : goal.returns-in-Double

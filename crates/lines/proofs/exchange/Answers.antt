@@ -1,5 +1,4 @@
 -- `lines::exchange` meets its contract. Assumes nothing.
-use borrow.Author.Rules.{rules}
 use borrow.Author.Tests.{eq-eqb, ne_eqb}
 use Rattle.lines.specs.Reading.{exchange_in}
 use Rattle.lines.specs.Lines.{exchange_of}

@@ -1,5 +1,4 @@
 -- `lines::feed` meets its contract. Assumes nothing.
-use borrow.Author.Rules.{rules}
 use mathlib.Core.Path.{◌∙◌, ap}
 use lib.Dec.{eqb}
 use Rattle.words.specs.Words.{place}

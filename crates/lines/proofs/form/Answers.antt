@@ -1,5 +1,4 @@
 -- `lines::form` meets its contract. Assumes nothing.
-use borrow.Author.Rules.{rules}
 use borrow.Author.Tests.{not-true, not-false}
 use Rattle.lines.specs.Reading.{entries_in, form_in}
 use Rattle.lines.proofs.form.Goals as goal

@@ -1,5 +1,4 @@
 -- `lines::open_form` meets its contract. Assumes nothing.
-use borrow.Author.Rules.{rules}
 use borrow.Author.Tests.{eq-eqb, ne_eqb}
 use Rattle.lines.specs.Reading.{open_in}
 use Rattle.lines.proofs.open_form.Goals as goal

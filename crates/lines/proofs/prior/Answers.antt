@@ -1,5 +1,4 @@
 -- `lines::prior` meets its contract. Assumes nothing.
-use borrow.Author.Rules.{rules}
 use borrow.Author.Tests.{eq-eqb, ne_eqb}
 use Rattle.lines.specs.Reading.{prior_in}
 use Rattle.lines.specs.Lines.{prior_of}

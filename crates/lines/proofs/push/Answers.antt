@@ -1,5 +1,4 @@
 -- `lines::push` meets its contract. Assumes nothing.
-use borrow.Author.Rules.{rules}
 use Rattle.lines.proofs.Steps.{push_full, push_room}
 use Rattle.lines.proofs.push.Goals as goal
 

@@ -1,5 +1,4 @@
 -- `lines::put_in` meets its contract. Assumes nothing.
-use borrow.Author.Rules.{rules}
 use borrow.Author.Tests.{eq-eqb, ne_eqb}
 use Rattle.lines.specs.Reading.{put_in_in}
 use Rattle.lines.specs.Lines.{put_in_of}

@@ -1,5 +1,4 @@
 -- `lines::read_word` meets its contract. Assumes nothing.
-use borrow.Author.Rules.{rules}
 use Rattle.lines.proofs.Steps.{read_word}
 use Rattle.lines.proofs.read_word.Goals as goal
 

@@ -1,5 +1,4 @@
 -- `lines::session_form` meets its contract: at each place the definition computes to its form. Assumes nothing.
-use borrow.Author.Rules.{rules}
 use borrow.Author.Tests.{ne_eqb}
 use Rattle.lines.proofs.session_form.Goals as goal
 

@@ -1,5 +1,4 @@
 -- `lines::sigma_in` meets its contract. Assumes nothing.
-use borrow.Author.Rules.{rules}
 use Rattle.lines.proofs.sigma_in.Goals as goal
 
 pub returns-in-Double : goal.returns-in-Double

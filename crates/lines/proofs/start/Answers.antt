@@ -1,5 +1,4 @@
 -- `lines::start` meets its contract. Assumes nothing.
-use borrow.Author.Rules.{rules}
 use Rattle.lines.specs.Reading.{start_of}
 use Rattle.lines.proofs.start.Goals as goal
 

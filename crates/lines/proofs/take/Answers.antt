@@ -1,5 +1,4 @@
 -- `lines::take` meets its contract. Assumes nothing.
-use borrow.Author.Rules.{rules}
 use mathlib.Core.Path.{◌∙◌}
 use Rattle.lines.proofs.Steps.{open_not, open_none, open_other, open_taken}
 use Rattle.lines.proofs.take.Goals as goal

@@ -1,5 +1,4 @@
 -- `lines::take_out` meets its contract. Assumes nothing.
-use borrow.Author.Rules.{rules}
 use borrow.Author.Tests.{eq-eqb, ne_eqb}
 use Rattle.lines.specs.Reading.{take_out_in}
 use Rattle.lines.specs.Lines.{take_out_of}

@@ -1,5 +1,4 @@
 -- `lines::with_entry` meets its contract. Assumes nothing.
-use borrow.Author.Rules.{rules}
 use Rattle.lines.proofs.with_entry.Goals as goal
 
 pub returns-in-Malformed : goal.returns-in-Malformed

@@ -2,7 +2,7 @@
 use borrow.Author.Rules.{rules}
 use mathlib.Core.Path.{◌≡◌, sym, subst}
 use lib.Dec.{T}
-use lib.ListN.{length, take}
+use lib.ListN.{take}
 use Rattle.definition.specs.Whole.{placed, edited_numbers}
 use Rattle.lists.specs.Changing.{edit_of, size_after, roomy}
 use Rattle.lists.proofs.Changes.{put_places, took_places, set_places}

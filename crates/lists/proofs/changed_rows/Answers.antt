@@ -1,5 +1,4 @@
 -- `changed_rows`: the three columns change alike.
-use borrow.Author.Rules.{rules}
 use Rattle.lists.specs.Changing.{edit_of}
 use Rattle.lists.proofs.Changes.{rows_changed}
 use Rattle.lists.proofs.changed_rows.Goals as goal

@@ -1,7 +1,5 @@
 -- `changed_wanted`: the two lists change alike.
 use borrow.Author.Rules.{rules}
-use mathlib.Core.Path.{◌≡◌}
-use lib.ListN.{length}
 use Rattle.lists.proofs.Changes.{wanted_changed}
 use Rattle.lists.proofs.changed_wanted.Goals as goal
 

@@ -1,13 +1,9 @@
 -- `filled`: the first `i` of the slice are laid over zeros.
-use Prim.Native.Nat.{◌≤◌, ◌-◌}
-use mathlib.Core.Path.{◌≡◌, refl, ◌∙◌}
+use mathlib.Core.Path.{refl, ◌∙◌}
 use native.Mathlib.Numerals.{add-one}
 use native.Mathlib.Omega.{arith}
-use borrow.Author.Rules.{rules}
-use lib.ListN.{length, take, get_or, replicate, length-set}
+use lib.ListN.{get_or, length-set}
 use lib.Ieee.{nan}
-use Rattle.numeric.specs.Numeric.{zero64}
-use Rattle.slices.specs.Slices.{laid_over}
 use Rattle.lists.proofs.Arrays.{places_suc, places_all}
 use Rattle.lists.proofs.filled.Goals as goal
 

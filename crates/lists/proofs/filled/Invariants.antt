@@ -1,14 +1,9 @@
 -- `filled`: the first `i` of the slice are laid over zeros.
 use Prim.Native.Nat.{◌≤◌, ◌-◌}
-use mathlib.Core.Path.{◌≡◌, refl, ◌∙◌}
-use native.Mathlib.Numerals.{add-one}
-use native.Mathlib.Omega.{arith}
-use borrow.Author.Rules.{rules}
-use lib.ListN.{length, take, get_or, replicate, length-set}
-use lib.Ieee.{nan}
+use mathlib.Core.Path.{◌≡◌}
+use lib.ListN.{length, take, replicate}
 use Rattle.numeric.specs.Numeric.{zero64}
 use Rattle.slices.specs.Slices.{laid_over}
-use Rattle.lists.proofs.Arrays.{places_suc, places_all}
 use Rattle.lists.proofs.filled.Given as goal
 
 abbrev pub invariant-loop-i : goal.invariant-loop-i

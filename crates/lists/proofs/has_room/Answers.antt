@@ -1,5 +1,4 @@
 -- `has_room`: by the change.
-use borrow.Author.Rules.{rules}
 use mathlib.Core.Path.{sym, ap}
 use Rattle.lists.specs.Changing.{edit_of, roomy}
 use Rattle.lists.proofs.has_room.Goals as goal

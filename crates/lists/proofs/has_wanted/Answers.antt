@@ -1,8 +1,7 @@
 -- `has_wanted`: within the places the number says whether there is one.
-use mathlib.Core.Path.{◌≡◌, sym}
+use mathlib.Core.Path.{sym}
 use mathlib.Core.Bool.{true≢false}
 use borrow.Author.Rules.{rules}
-use lib.ListN.{length}
 use Rattle.lists.proofs.Arrays.{wanted_some}
 use Rattle.lists.proofs.has_wanted.Goals as goal
 

@@ -1,5 +1,4 @@
 -- `is_placed`: by the change.
-use borrow.Author.Rules.{rules}
 use Rattle.lists.proofs.Changes.{placed_put, placed_as}
 use Rattle.lists.proofs.is_placed.Goals as goal
 

@@ -1,5 +1,4 @@
 -- `shots_of`: by the contracts of its parts.
-use borrow.Author.Rules.{rules}
 use Rattle.lists.proofs.shots_of.Goals as goal
 
 pub returns : goal.returns

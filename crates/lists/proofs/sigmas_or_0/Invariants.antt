@@ -1,18 +1,11 @@
 -- `sigmas_or_0`: the first `i` sigmas, 0 for one that is not given, are laid over zeros.
 use Prim.Native.Nat.{◌≤◌, ◌-◌}
-use mathlib.Core.Path.{◌≡◌, refl, sym, ◌∙◌}
-use mathlib.Core.Bool.{false}
-use native.Mathlib.Numerals.{add-one}
-use native.Mathlib.Omega.{arith}
-use borrow.Author.Rules.{rules}
-use lib.ListN.{length, take, replicate, length-set}
-use lib.Ieee.{nan}
+use mathlib.Core.Path.{◌≡◌}
+use lib.ListN.{length, take, replicate}
 use Rattle.numeric.specs.Numeric.{zero64}
 use Rattle.definition.specs.Lists.{zip_with}
 use Rattle.slices.specs.Slices.{laid_over}
-use Rattle.likelihood.proofs.Laws.{zip_length, zip_at}
 use Rattle.lists.specs.Lists.{sigma_or0}
-use Rattle.lists.proofs.Arrays.{places_suc, places_all}
 use Rattle.lists.proofs.sigmas_or_0.Given as goal
 
 abbrev pub invariant-loop-i : goal.invariant-loop-i

@@ -1,5 +1,4 @@
 -- `damped` meets its contract, by `max`'s contract. Assumes nothing.
-use borrow.Author.Rules.{rules}
 use Rattle.definition.specs.Fit.{damped_of}
 use Rattle.map_fit.proofs.damped.Goals as goal
 

@@ -1,5 +1,4 @@
 -- `damped_step` meets its contract, each return by the tests and the calls that lead to it. Assumes nothing.
-use borrow.Author.Rules.{rules}
 use Rattle.definition.specs.Fit.{step_of}
 use Rattle.map_fit.proofs.damped_step.Goals as goal
 

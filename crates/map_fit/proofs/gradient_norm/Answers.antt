@@ -1,5 +1,4 @@
 -- `gradient_norm` meets its contract, by the contracts of `abs` and `max`. Assumes nothing.
-use borrow.Author.Rules.{rules}
 use Rattle.definition.specs.Fit.{gradient_norm_of}
 use Rattle.map_fit.proofs.gradient_norm.Goals as goal
 

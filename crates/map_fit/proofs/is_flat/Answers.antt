@@ -1,5 +1,4 @@
 -- `is_flat` meets its contract, by `gradient_norm`'s contract. Assumes nothing.
-use borrow.Author.Rules.{rules}
 use Rattle.definition.specs.Fit.{flat_of}
 use Rattle.map_fit.proofs.is_flat.Goals as goal
 

@@ -1,5 +1,4 @@
 -- `is_unfit` meets its contract, by the contracts of `is_finite` and `abs`. Assumes nothing.
-use borrow.Author.Rules.{rules}
 use Rattle.definition.specs.Fit.{unfit_of}
 use Rattle.map_fit.proofs.is_unfit.Goals as goal
 

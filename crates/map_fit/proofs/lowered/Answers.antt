@@ -1,5 +1,4 @@
 -- `lowered` meets its contract, by `max`'s contract. Assumes nothing.
-use borrow.Author.Rules.{rules}
 use Rattle.definition.specs.Fit.{lowered_of}
 use Rattle.map_fit.proofs.lowered.Goals as goal
 

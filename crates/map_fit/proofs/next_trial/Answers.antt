@@ -2,8 +2,6 @@
 use Prim.Native.Nat.{suc, ◌-◌}
 use mathlib.Core.Path.{◌≡◌, refl, ◌∙◌}
 use native.Mathlib.Omega.{arith}
-use borrow.Author.Rules.{rules}
-use Rattle.map_fit.specs.Trials.{next_trial_of}
 use Rattle.map_fit.proofs.Laws.{trial_none, trial_to, trial_unfit}
 use Rattle.map_fit.proofs.next_trial.Goals as goal
 

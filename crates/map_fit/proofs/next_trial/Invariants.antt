@@ -1,10 +1,6 @@
 -- `next_trial` meets its contract. The invariant: the trials left give what the whole gives. The measure is the number of trials left. Assumes nothing.
-use Prim.Native.Nat.{suc, ◌-◌}
-use mathlib.Core.Path.{◌≡◌, refl, ◌∙◌}
-use native.Mathlib.Omega.{arith}
-use borrow.Author.Rules.{rules}
+use mathlib.Core.Path.{◌≡◌}
 use Rattle.map_fit.specs.Trials.{next_trial_of}
-use Rattle.map_fit.proofs.Laws.{trial_none, trial_to, trial_unfit}
 use Rattle.map_fit.proofs.next_trial.Given as goal
 
 abbrev pub invariant-loop-left_now : goal.invariant-loop-left_now

@@ -1,5 +1,4 @@
 -- `stepped` meets its contract, by `bounded`'s contract. Assumes nothing.
-use borrow.Author.Rules.{rules}
 use Rattle.definition.specs.Fit.{stepped_of}
 use Rattle.map_fit.proofs.stepped.Goals as goal
 

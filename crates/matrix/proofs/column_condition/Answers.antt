@@ -1,5 +1,4 @@
 -- `column_condition` meets its contract: each return by the tests and the calls that lead to it. Assumes nothing.
-use borrow.Author.Rules.{rules}
 use Rattle.matrix.specs.Matrix.{column_condition_of}
 use Rattle.matrix.proofs.column_condition.Goals as goal
 

@@ -1,6 +1,5 @@
 -- `numerals::digit` meets its contract. Assumes nothing.
 use native.Mathlib.Omega.{arith}
-use borrow.Author.Rules.{rules}
 use borrow.Author.Tests.{leb-true}
 use lib.Dec.{leb}
 use Rattle.numerals.specs.Numbers.{digit_of}

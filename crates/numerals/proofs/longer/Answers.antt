@@ -1,7 +1,6 @@
 -- `numerals::longer` meets its contract: the tests ask, without a product, whether 64 bits hold the longer number. Assumes nothing.
 use Prim.Native.Nat.{◌+◌, ◌*◌, ◌^◌, ◌<◌}
 use native.Mathlib.Omega.{arith}
-use borrow.Author.Rules.{rules}
 use borrow.Author.Tests.{lt-ltb, le-ltb}
 use Rattle.numerals.proofs.Numbers.{longer_room, longer_over, longer_fits}
 use Rattle.numerals.proofs.longer.Reads as reads

@@ -1,12 +1,11 @@
 -- `numerals::number` meets its contract. The invariant: the number of all the digits is that of what is left, read on from m. Assumes nothing.
-use Prim.Native.Nat.{suc, ◌+◌, ◌-◌, ◌*◌, ◌^◌, ◌≤◌, ◌<◌}
-use mathlib.Core.Path.{◌≡◌, refl, sym, ap, ◌∙◌}
+use Prim.Native.Nat.{suc, ◌+◌, ◌*◌, ◌^◌}
+use mathlib.Core.Path.{refl, sym, ap, ◌∙◌}
 use native.Mathlib.Numerals.{add-one}
 use native.Mathlib.Omega.{arith}
-use borrow.Author.Rules.{rules}
 use borrow.Author.Tests.{lt-ltb}
-use lib.ListN.{length, drop}
-use Rattle.numerals.specs.Numbers.{number_from, within64, says_count}
+use lib.ListN.{drop}
+use Rattle.numerals.specs.Numbers.{within64, says_count}
 use Rattle.numerals.proofs.Numbers.{read_on_lem, read_off, read_end, next_is, next_fits, over_is, over_stays}
 use Rattle.numerals.proofs.number.Goals as goal
 

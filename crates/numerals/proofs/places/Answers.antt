@@ -1,10 +1,8 @@
 -- `numerals::places` meets its contract. The invariant: the places passed, and those of what is left. Assumes nothing.
-use Prim.Native.Nat.{◌+◌, ◌-◌, ◌≤◌}
-use mathlib.Core.Path.{◌≡◌, ◌∙◌}
+use mathlib.Core.Path.{◌∙◌}
 use native.Mathlib.Omega.{arith}
 use borrow.Author.Tests.{ltb-true, leb-true}
 use lib.Dec.{leb, ltb}
-use Rattle.numerals.specs.Numbers.{places_of}
 use Rattle.numerals.proofs.Numbers.{both_l, both_r, places_step, places_end}
 use Rattle.numerals.proofs.places.Goals as goal
 

@@ -1,7 +1,6 @@
 -- `numerals::read_count` meets its contract. Assumes nothing.
 use mathlib.Core.Path.{sym, ◌∙◌}
 use Rattle.numerals.proofs.Numbers.{no_bytes, a_leading_zero, no_leading_zero}
-use borrow.Author.Rules.{rules}
 use Rattle.numerals.proofs.read_count.Goals as goal
 
 pub returns-then-s-eq0 : goal.returns-then-s-eq0

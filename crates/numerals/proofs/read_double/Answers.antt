@@ -3,7 +3,6 @@ use mathlib.Core.Path.{sym, ap, ◌∙◌}
 use mathlib.Core.Option.{none, some}
 use Rattle.numerals.specs.Numbers.{says_count}
 use Rattle.numerals.proofs.Numbers.{no_double, a_double}
-use borrow.Author.Rules.{rules}
 use Rattle.numerals.proofs.read_double.Goals as goal
 
 pub returns-then-s-ne16 : goal.returns-then-s-ne16

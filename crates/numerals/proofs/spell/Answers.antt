@@ -1,12 +1,10 @@
 -- `numerals::spell` meets its contract. The invariant: the digits of what is left, and then what is written. Assumes nothing.
-use Prim.Native.Nat.{◌-◌, ◌≤◌}
+use Prim.Native.Nat.{◌-◌}
 use mathlib.Core.Path.{◌≡◌, refl, sym, ◌∙◌}
-use mathlib.Core.List.{◌++◌}
 use native.Mathlib.Nat.{mod-lt}
 use native.Mathlib.Omega.{arith}
 use borrow.Author.Rules.{rules}
-use lib.ListN.{length, drop, length-set}
-use Rattle.numerals.specs.Numbers.{digits_of}
+use lib.ListN.{length-set}
 use Rattle.numerals.proofs.Numbers.{spell_step}
 use Rattle.numerals.proofs.spell.Goals as goal
 

@@ -1,13 +1,9 @@
 -- `numerals::spell` meets its contract. The invariant: the digits of what is left, and then what is written. Assumes nothing.
-use Prim.Native.Nat.{◌-◌, ◌≤◌}
-use mathlib.Core.Path.{◌≡◌, refl, sym, ◌∙◌}
+use Prim.Native.Nat.{◌≤◌}
+use mathlib.Core.Path.{◌≡◌}
 use mathlib.Core.List.{◌++◌}
-use native.Mathlib.Nat.{mod-lt}
-use native.Mathlib.Omega.{arith}
-use borrow.Author.Rules.{rules}
-use lib.ListN.{length, drop, length-set}
+use lib.ListN.{length, drop}
 use Rattle.numerals.specs.Numbers.{digits_of}
-use Rattle.numerals.proofs.Numbers.{spell_step}
 use Rattle.numerals.proofs.spell.Given as goal
 
 abbrev pub invariant-loop-i : goal.invariant-loop-i

@@ -2,7 +2,6 @@
 use mathlib.Core.Path.{◌∙◌}
 use native.Mathlib.Omega.{arith}
 use Rattle.numerals.proofs.Numbers.{places_most, in_20, text_length}
-use borrow.Author.Rules.{rules}
 use Rattle.numerals.proofs.write_count.Goals as goal
 
 pub spell-requires : goal.spell-requires

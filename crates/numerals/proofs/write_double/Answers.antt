@@ -1,7 +1,6 @@
 -- `numerals::write_double` meets its contract. Assumes nothing.
 use mathlib.Core.Path.{◌∙◌}
 use Rattle.numerals.proofs.Numbers.{in_16}
-use borrow.Author.Rules.{rules}
 use Rattle.numerals.proofs.write_double.Goals as goal
 
 pub returns : goal.returns

@@ -1,5 +1,4 @@
 -- `hypot` meets its contract: its tests on the absolute values are the definition's cases (`hypot_by_tests`). Assumes nothing.
-use borrow.Author.Rules.{rules}
 use lib.Ieee.{div, of_bits}
 use Rattle.numeric.proofs.Laws.{hypot_by_tests}
 use Rattle.numeric.proofs.hypot.Goals as goal

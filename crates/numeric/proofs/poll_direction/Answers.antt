@@ -1,5 +1,4 @@
 -- `poll_direction` meets its contract: each return by the tests and the calls that lead to it. Assumes nothing.
-use borrow.Author.Rules.{rules}
 use Rattle.numeric.specs.Poll.{direction_of}
 use Rattle.numeric.proofs.poll_direction.Goals as goal
 

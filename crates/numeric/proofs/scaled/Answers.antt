@@ -1,5 +1,4 @@
 -- `scaled` meets its contract, by the root's. Assumes nothing.
-use borrow.Author.Rules.{rules}
 use Rattle.numeric.specs.Numeric.{scaled_of}
 use Rattle.numeric.proofs.scaled.Goals as goal
 

@@ -1,5 +1,4 @@
 -- `begin` meets its contract: each answer of the look by its law over plain values. Assumes nothing.
-use borrow.Author.Rules.{rules}
 use Rattle.objective_mesh.proofs.Laws.{begin_moved, begin_none}
 use Rattle.objective_mesh.proofs.begin.Goals as goal
 

@@ -1,5 +1,4 @@
 -- `candidate` meets its contract, by `bounded`'s contract. Assumes nothing.
-use borrow.Author.Rules.{rules}
 use Rattle.definition.specs.Mesh.{candidate_of}
 use Rattle.objective_mesh.proofs.candidate.Goals as goal
 

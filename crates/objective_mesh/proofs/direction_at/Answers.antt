@@ -2,7 +2,6 @@
 use mathlib.Core.Path.{sym}
 use native.Mathlib.Omega.{arith}
 use Rattle.objective_mesh.proofs.Directions.{direction_last}
-use Rattle.objective_mesh.proofs.Laws.{past}
 use Rattle.objective_mesh.proofs.direction_at.Goals as goal
 
 pub returns-in-0 : goal.returns-in-0

@@ -1,5 +1,4 @@
 -- `first_pass` meets its contract, by the calls' contracts. Assumes nothing.
-use borrow.Author.Rules.{rules}
 use Rattle.objective_mesh.proofs.first_pass.Goals as goal
 
 pub returns : goal.returns

@@ -1,5 +1,4 @@
 -- `judged` meets its contract: each return by its law over plain values. Assumes nothing.
-use borrow.Author.Rules.{rules}
 use Rattle.objective_mesh.specs.Meaning.{pass_of}
 use Rattle.objective_mesh.proofs.Laws.{judged_gained, judged_ungained}
 use Rattle.objective_mesh.proofs.judged.Goals as goal

@@ -1,13 +1,8 @@
 -- `look` meets its contract. The invariant: what is left to look at gives what the whole gives. The measure is the number of directions left. Assumes nothing.
 use Prim.Native.Nat.{◌-◌}
-use mathlib.Core.Path.{◌≡◌, refl, sym, ◌∙◌}
-use native.Mathlib.Numerals.{add-one}
-use native.Mathlib.Omega.{arith}
-use borrow.Author.Rules.{rules}
+use mathlib.Core.Path.{◌≡◌}
 use lib.ListN.{drop}
 use Rattle.definition.specs.Mesh as mesh
-use Rattle.objective_mesh.proofs.Directions.{look_past}
-use Rattle.objective_mesh.proofs.Laws.{look_moved, look_unmoved}
 use Rattle.objective_mesh.proofs.look.Given as goal
 
 abbrev pub invariant-loop-j : goal.invariant-loop-j

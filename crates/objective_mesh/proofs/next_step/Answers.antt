@@ -1,5 +1,4 @@
 -- `next_step` meets its contract: each answer of the look by its law over plain values. Assumes nothing.
-use borrow.Author.Rules.{rules}
 use Rattle.objective_mesh.specs.Meaning.{pass_of}
 use Rattle.objective_mesh.proofs.Laws.{step_moved, step_none}
 use Rattle.objective_mesh.proofs.next_step.Goals as goal

@@ -1,5 +1,4 @@
 -- `quartered` meets its contract, by `max`'s contract. Assumes nothing.
-use borrow.Author.Rules.{rules}
 use Rattle.definition.specs.Mesh.{quartered_of}
 use Rattle.objective_mesh.proofs.quartered.Goals as goal
 

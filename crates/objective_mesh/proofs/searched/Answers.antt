@@ -1,5 +1,4 @@
 -- `searched` meets its contract, by `max`'s contract. Assumes nothing.
-use borrow.Author.Rules.{rules}
 use Rattle.objective_mesh.proofs.searched.Goals as goal
 
 pub returns : goal.returns

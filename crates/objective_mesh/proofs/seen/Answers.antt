@@ -1,5 +1,4 @@
 -- `seen` meets its contract: each return by its law over plain values. Assumes nothing.
-use borrow.Author.Rules.{rules}
 use Rattle.objective_mesh.specs.Meaning.{pass_of}
 use Rattle.objective_mesh.proofs.Laws.{seen_over, seen_better, seen_other}
 use Rattle.objective_mesh.proofs.seen.Goals as goal

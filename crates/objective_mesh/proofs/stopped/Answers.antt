@@ -1,6 +1,5 @@
 -- `stopped` meets its contract: each return by its law over plain values. Assumes nothing.
 use mathlib.Core.Path.{◌∙◌}
-use borrow.Author.Rules.{rules}
 use Rattle.objective_mesh.specs.Meaning.{pass_of}
 use Rattle.objective_mesh.proofs.Laws.{stopped_gained, stopped_last, stopped_cut}
 use Rattle.objective_mesh.proofs.stopped.Goals as goal

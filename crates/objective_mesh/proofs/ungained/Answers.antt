@@ -3,8 +3,6 @@
 use Prim.Native.Nat.{suc, ◌-◌}
 use mathlib.Core.Path.{◌≡◌, refl, ◌∙◌}
 use native.Mathlib.Omega.{arith}
-use borrow.Author.Rules.{rules}
-use Rattle.definition.specs.Mesh as mesh
 use Rattle.objective_mesh.proofs.Laws.{ungained_end, ungained_moved, ungained_none}
 use Rattle.objective_mesh.proofs.ungained.Goals as goal
 

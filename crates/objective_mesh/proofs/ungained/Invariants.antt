@@ -1,11 +1,7 @@
 -- `ungained` meets its contract. The invariant: the poll goes on from the radius, the count and the best here as from those at the start. The measure is the
 -- number of radii left. Assumes nothing.
-use Prim.Native.Nat.{suc, ◌-◌}
-use mathlib.Core.Path.{◌≡◌, refl, ◌∙◌}
-use native.Mathlib.Omega.{arith}
-use borrow.Author.Rules.{rules}
+use mathlib.Core.Path.{◌≡◌}
 use Rattle.definition.specs.Mesh as mesh
-use Rattle.objective_mesh.proofs.Laws.{ungained_end, ungained_moved, ungained_none}
 use Rattle.objective_mesh.proofs.ungained.Given as goal
 
 abbrev pub invariant-loop-left : goal.invariant-loop-left

@@ -1,5 +1,4 @@
 -- `check`: the measured part, and where it passes the requested distances.
-use borrow.Author.Rules.{rules}
 use Rattle.opening.specs.Opening.{opening_of}
 use Rattle.opening.proofs.Laws.{check_measured_faulty, check_measured_sound}
 use Rattle.opening.proofs.check.Goals as goal

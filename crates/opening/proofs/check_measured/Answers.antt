@@ -1,5 +1,4 @@
 -- `check_measured`: by each test on the way.
-use borrow.Author.Rules.{rules}
 use borrow.Author.Tests.{le-leb, lt-leb, not-true, not-false}
 use Rattle.definition.specs.Meaning.{observation_of}
 use Rattle.likelihood.proofs.Laws.{zip3_shortest}

@@ -1,6 +1,5 @@
 -- `check_requested`: by each test on the way.
 use borrow.Author.Tests.{le-leb, lt-leb}
-use borrow.Author.Rules.{rules}
 use Rattle.likelihood.proofs.Laws.{zip3_shortest}
 use Rattle.opening.specs.Opening.{wanted_at}
 use Rattle.opening.proofs.Laws.{requested_by_lem, unless_fault}

@@ -1,17 +1,11 @@
 -- `opening::first_faulty_observation` meets its contract. The invariant: the first at fault of the whole list is the first of what is left. Assumes nothing.
-use Prim.Native.Nat.{ℕ, ◌≤◌, ◌<◌, ◌-◌}
-use mathlib.Core.Path.{◌≡◌, refl, sym, ap, ◌∙◌}
-use mathlib.Core.Bool.{Bool, not}
-use mathlib.Core.List.{List}
-use native.Mathlib.Numerals.{add-one}
-use native.Mathlib.Omega.{arith}
-use borrow.Author.Rules.{rules}
+use Prim.Native.Nat.{◌≤◌, ◌-◌}
+use mathlib.Core.Path.{◌≡◌}
 use lib.ListN.{length, drop}
-use lib.Ieee.{Float, nan}
 use Rattle.definition.specs.Lists.{first_at}
-use Rattle.definition.proofs.Reading.{rest_none, from, first_start, first_here, first_next, first_none, zip_cons, zip_first, zip_second, zip_third}
+use Rattle.definition.proofs.Reading.{from}
 use Rattle.definition.specs.Whole.{faulty_observation}
-use Rattle.definition.specs.Meaning.{observation_of, observations_of}
+use Rattle.definition.specs.Meaning.{observations_of}
 use Rattle.opening.proofs.first_faulty_observation.Given as goal
 
 abbrev pub invariant-loop-i : goal.invariant-loop-i

@@ -1,5 +1,4 @@
 -- `opening::is_positive` meets its contract, by that of `is_finite`. Assumes nothing.
-use borrow.Author.Rules.{rules}
 use Rattle.definition.specs.Whole.{positive_of}
 use Rattle.opening.proofs.is_positive.Goals as goal
 

@@ -1,5 +1,4 @@
 -- `opening::is_sound_observation` meets its contract, by those of the three tests. Assumes nothing.
-use borrow.Author.Rules.{rules}
 use Rattle.definition.specs.Whole.{sound_observation_of}
 use Rattle.opening.proofs.is_sound_observation.Goals as goal
 

@@ -1,5 +1,4 @@
 -- `opening::is_sound_prior` meets its contract, by cases, and the two tests. Assumes nothing.
-use borrow.Author.Rules.{rules}
 use Rattle.definition.specs.Whole.{sound_prior_of}
 use Rattle.opening.proofs.is_sound_prior.Goals as goal
 

@@ -1,5 +1,4 @@
 -- `opening::is_sound_requested` meets its contract, by those of the two tests. Assumes nothing.
-use borrow.Author.Rules.{rules}
 use Rattle.definition.specs.Whole.{sound_requested_of}
 use Rattle.opening.proofs.is_sound_requested.Goals as goal
 

@@ -1,5 +1,4 @@
 -- `opening::is_sound_sigma` meets its contract, by cases. Assumes nothing.
-use borrow.Author.Rules.{rules}
 use Rattle.opening.proofs.is_sound_sigma.Goals as goal
 
 pub returns-in-Absent : goal.returns-in-Absent

@@ -1,5 +1,4 @@
 -- `is_sound_wanted`: by whether a sigma is given.
-use borrow.Author.Rules.{rules}
 use Rattle.opening.proofs.is_sound_wanted.Goals as goal
 
 pub returns-then-given : goal.returns-then-given

@@ -1,5 +1,4 @@
 -- `opening::is_within` meets its contract, by that of `is_finite`. Assumes nothing.
-use borrow.Author.Rules.{rules}
 use Rattle.definition.specs.Whole.{within_of}
 use Rattle.opening.proofs.is_within.Goals as goal
 

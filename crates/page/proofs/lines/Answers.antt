@@ -1,6 +1,5 @@
 -- `lines`: three, one for each observation and each band, and those of the warnings.
-use borrow.Author.Rules.{rules}
-use mathlib.Core.Path.{sym, ap, ◌∙◌, subst}
+use mathlib.Core.Path.{sym, ap, subst}
 use native.Mathlib.Omega.{arith}
 use lib.ListN.{length}
 use Rattle.editing.specs.Meaning.{state}

@@ -1,6 +1,5 @@
 -- `put_bands`: line by line. The invariant: the lines of the first i are written.
-use borrow.Author.Rules.{rules}
-use Prim.Native.Nat.{ℕ, ◌-◌, ◌≤◌}
+use Prim.Native.Nat.{ℕ}
 use mathlib.Core.Path.{◌≡◌, sym, ap, ◌∙◌}
 use mathlib.Core.List.{map}
 use native.Mathlib.Omega.{arith}
@@ -8,7 +7,6 @@ use lib.ListN.{take}
 use Rattle.report.specs.Places.{band_at_says}
 use Rattle.report.specs.Reading.{report_in}
 use Rattle.editing.specs.Meaning.{state}
-use Rattle.report_text.specs.Writing.{Writes}
 use Rattle.report_text.proofs.Writing.{then, as_text, same_room, within, nothing}
 use Rattle.answer_text.specs.Answers.{bands_in}
 use Rattle.answer_text.proofs.Laws.{place_list, all_taken}

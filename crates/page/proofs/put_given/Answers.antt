@@ -1,5 +1,4 @@
 -- `page::put_given` meets its contract. Assumes nothing.
-use borrow.Author.Rules.{rules}
 use Rattle.page.proofs.Laws.{whole_page}
 use Rattle.report_text.proofs.Writing.{then, as_text, same_room}
 use Rattle.page.proofs.put_given.Goals as goal

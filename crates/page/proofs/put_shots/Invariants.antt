@@ -1,20 +1,11 @@
 -- `put_shots`: line by line. The invariant: the lines of the first i are written.
-use borrow.Author.Rules.{rules}
-use Prim.Native.Nat.{ℕ, ◌-◌, ◌≤◌}
-use mathlib.Core.Path.{◌≡◌, sym, ap, ◌∙◌}
+use Prim.Native.Nat.{◌-◌, ◌≤◌}
 use mathlib.Core.Bool.{false}
 use mathlib.Core.List.{map}
-use native.Mathlib.Omega.{arith}
 use lib.ListN.{take}
-use Rattle.report.specs.Places.{result_says}
-use Rattle.report.specs.Reading.{report_in}
-use Rattle.editing.specs.Meaning.{state}
 use Rattle.report_text.specs.Writing.{Writes}
-use Rattle.report_text.proofs.Writing.{then, as_text, same_room, within, nothing}
 use Rattle.answer_text.specs.Answers.{results_in}
-use Rattle.answer_text.proofs.Laws.{place_list, all_taken}
 use Rattle.page_text.specs.Page.{shot_line, joined_lines}
-use Rattle.page.proofs.Laws.{next_line_lem}
 use Rattle.page.proofs.put_shots.Given as goal
 
 abbrev pub invariant-loop-i : goal.invariant-loop-i

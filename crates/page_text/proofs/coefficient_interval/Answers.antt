@@ -1,6 +1,4 @@
 -- `page_text::coefficient_interval` meets its contract. Assumes nothing.
-use borrow.Author.Rules.{rules}
-use Rattle.report_text.proofs.Writing.{then, as_text, same_room}
 use Rattle.page_text.proofs.coefficient_interval.Goals as goal
 
 pub returns-in-Available : goal.returns-in-Available

@@ -1,6 +1,4 @@
 -- `page_text::ends_of` meets its contract. Assumes nothing.
-use borrow.Author.Rules.{rules}
-use Rattle.report_text.proofs.Writing.{then, as_text, same_room}
 use Rattle.page_text.proofs.ends_of.Goals as goal
 
 pub returns-in-Absent : goal.returns-in-Absent

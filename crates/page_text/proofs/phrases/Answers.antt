@@ -1,7 +1,5 @@
 -- `page_text::phrases` meets its contract. Assumes nothing.
-use borrow.Author.Rules.{rules}
 use mathlib.Core.Path.{refl}
-use Rattle.report_text.proofs.Writing.{then, as_text, same_room}
 use Rattle.page_text.specs.Pieces.{phrase_rows}
 use Rattle.page_text.specs.Page.{phrase_text}
 use Rattle.page_text.proofs.phrases.Goals as goal

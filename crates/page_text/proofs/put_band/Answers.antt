@@ -1,7 +1,6 @@
 -- `page_text::put_band` meets its contract. Assumes nothing.
-use borrow.Author.Rules.{rules}
 use Rattle.page_text.proofs.Laws.{by_ends}
-use Rattle.report_text.proofs.Writing.{then, as_text, same_room}
+use Rattle.report_text.proofs.Writing.{as_text, same_room}
 use Rattle.page_text.specs.Page.{band_line}
 use Rattle.page_text.proofs.put_band.Goals as goal
 

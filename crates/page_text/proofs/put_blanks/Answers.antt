@@ -1,9 +1,7 @@
 -- `page_text::put_blanks` meets its contract. Assumes nothing.
 use mathlib.Core.Path.{sym}
-use native.Mathlib.Omega.{arith}
 use lib.ListN.{replicate}
 use lib.Seq.{length-take-le}
-use borrow.Author.Rules.{rules}
 use Rattle.report_text.proofs.Writing.{as_text}
 use Rattle.page_text.proofs.Laws.{first_blanks}
 use Rattle.page_text.proofs.put_blanks.Goals as goal

@@ -1,10 +1,9 @@
 -- `page_text::put_number` meets its contract. Assumes nothing.
-use borrow.Author.Rules.{rules}
 use mathlib.Core.Path.{◌≡◌, sym, ap, ◌∙◌}
 use lib.Ieee.{Float}
 use Rattle.thousandths.specs.Thousandths.{shown_of}
 use Rattle.thousandths.specs.declared.Shown.{Shown}
-use Rattle.report_text.proofs.Writing.{then, as_text, same_room}
+use Rattle.report_text.proofs.Writing.{as_text, same_room}
 use Rattle.page_text.specs.Columns.{right_aligned, shown_text, number_text}
 use Rattle.page_text.proofs.put_number.Goals as goal
 

@@ -1,8 +1,7 @@
 -- `page_text::put_phrase` meets its contract. Assumes nothing.
-use borrow.Author.Rules.{rules}
 use native.Mathlib.Omega.{arith}
 use Rattle.page_text.proofs.Laws.{row_below, rows_length, by_row}
-use Rattle.report_text.proofs.Writing.{then, as_text, same_room}
+use Rattle.report_text.proofs.Writing.{as_text, same_room}
 use Rattle.page_text.proofs.put_phrase.Goals as goal
 
 pub overflow_mul-from : goal.overflow_mul-from

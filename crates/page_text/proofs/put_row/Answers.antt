@@ -1,5 +1,4 @@
 -- `page_text::put_row` meets its contract. Assumes nothing.
-use borrow.Author.Rules.{rules}
 use Rattle.report_text.proofs.Writing.{then, as_text, same_room}
 use Rattle.page_text.specs.Columns.{row_text}
 use mathlib.Core.Path.{refl}

@@ -1,6 +1,5 @@
 -- `page_text::put_shot` meets its contract. Assumes nothing.
-use borrow.Author.Rules.{rules}
-use Rattle.report_text.proofs.Writing.{then, as_text, same_room}
+use Rattle.report_text.proofs.Writing.{as_text, same_room}
 use Rattle.page_text.specs.Page.{shot_line}
 use mathlib.Core.Path.{refl}
 use Rattle.page_text.proofs.put_shot.Goals as goal

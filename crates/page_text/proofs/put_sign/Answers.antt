@@ -1,6 +1,5 @@
 -- `page_text::put_sign` meets its contract. Assumes nothing.
-use Rattle.report_text.proofs.Writing.{as_text, same_room}
-use borrow.Author.Rules.{rules}
+use Rattle.report_text.proofs.Writing.{as_text}
 use Rattle.page_text.proofs.put_sign.Goals as goal
 
 pub returns-then-minus : goal.returns-then-minus

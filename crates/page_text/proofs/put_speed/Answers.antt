@@ -1,9 +1,8 @@
 -- `page_text::put_speed` meets its contract. Assumes nothing.
-use borrow.Author.Rules.{rules}
 use mathlib.Core.Path.{ap, ◌∙◌}
 use Rattle.page_text.specs.Page.{ends_of}
 use Rattle.page_text.proofs.Laws.{by_ends}
-use Rattle.report_text.proofs.Writing.{then, as_text, same_room}
+use Rattle.report_text.proofs.Writing.{as_text, same_room}
 use Rattle.page_text.specs.Page.{speed_line}
 use Rattle.page_text.proofs.put_speed.Goals as goal
 

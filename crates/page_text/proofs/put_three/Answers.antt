@@ -1,9 +1,8 @@
 -- `page_text::put_three` meets its contract. Assumes nothing.
 use Prim.Native.Nat.{ℕ}
-use mathlib.Core.Path.{◌≡◌, ap, ◌∙◌}
+use mathlib.Core.Path.{◌≡◌}
 use mathlib.Core.List.{List, [], ◌∷◌}
-use Rattle.report_text.proofs.Writing.{then, as_text, same_room}
-use borrow.Author.Rules.{rules}
+use Rattle.report_text.proofs.Writing.{then, as_text}
 use Rattle.page_text.proofs.put_three.Goals as goal
 
 three : {a b c x y z : ℕ} → a ≡ x → b ≡ y → c ≡ z → ◌≡◌ {A = List ℕ} (a ∷ b ∷ c ∷ []) (x ∷ y ∷ z ∷ [])

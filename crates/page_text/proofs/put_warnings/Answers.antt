@@ -1,5 +1,4 @@
 -- `page_text::put_warnings` meets its contract. Assumes nothing.
-use borrow.Author.Rules.{rules}
 use Rattle.page_text.proofs.Laws.{warnings_lines}
 use Rattle.report_text.proofs.Writing.{then, as_text, same_room}
 use Rattle.page_text.proofs.put_warnings.Goals as goal

@@ -1,9 +1,5 @@
 -- `page_text::room` meets its contract. Assumes nothing.
-use Prim.Native.Nat.{ℕ, ◌+◌, ◌-◌, ◌≤◌, ◌<◌}
-use mathlib.Core.Path.{◌≡◌}
-use mathlib.Core.Bool.{Bool, true, false, cond}
 use native.Mathlib.Omega.{arith}
-use borrow.Author.Rules.{rules}
 use Rattle.page_text.proofs.room.Goals as goal
 
 pub returns-then-len-lt9 : goal.returns-then-len-lt9

@@ -1,6 +1,4 @@
 -- `page_text::row` meets its contract. Assumes nothing.
-use borrow.Author.Rules.{rules}
-use Rattle.report_text.proofs.Writing.{then, as_text, same_room}
 use Rattle.page_text.specs.Pieces.{row_of}
 use Rattle.page_text.proofs.row.Goals as goal
 

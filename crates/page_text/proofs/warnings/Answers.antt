@@ -1,8 +1,6 @@
 -- `page_text::warnings` meets its contract. Assumes nothing.
-use borrow.Author.Rules.{rules}
 use native.Mathlib.Omega.{arith}
 use Rattle.page_text.proofs.Laws.{codes_length}
-use Rattle.report_text.proofs.Writing.{then, as_text, same_room}
 use Rattle.page_text.proofs.warnings.Goals as goal
 
 pub returns : goal.returns

@@ -3,7 +3,6 @@ use mathlib.Core.Path.{refl, sym, subst}
 use Rattle.fitting.specs.Meaning.{start_at, after_trial, after_look}
 use Rattle.phases.specs.Phases.{Takes, reports_at}
 use Rattle.phases.specs.declared.Phase.{Phase}
-use borrow.Author.Rules.{rules}
 use Rattle.phases.proofs.advance.Goals as goal
 
 pub returns-in-Over : goal.returns-in-Over

@@ -1,5 +1,4 @@
 -- `at_fit`: by whether a distance is requested.
-use borrow.Author.Rules.{rules}
 use Rattle.phases.specs.Phases.{at_fit_at}
 use Rattle.phases.proofs.at_fit.Goals as goal
 

@@ -1,10 +1,8 @@
 -- `evaluated`: by what the evaluation is wanted for.
 use mathlib.Core.Path.{sym, subst}
 use Rattle.fitting.specs.declared.Stage.{Stage}
-use Rattle.fitting.specs.declared.Stage.TheVariants as Stage
 use Rattle.phases.specs.Phases.{Evaluates}
 use Rattle.phases.proofs.Laws.{rows_go}
-use borrow.Author.Rules.{rules}
 use Rattle.phases.proofs.evaluated.Goals as goal
 
 pub returns-in-Iteration : goal.returns-in-Iteration

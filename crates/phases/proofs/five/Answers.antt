@@ -1,6 +1,5 @@
 -- `five`: by the number of the question, and by a gap.
 use Rattle.phases.proofs.Laws.{five_asks, five_stops, five_evaluates}
-use borrow.Author.Rules.{rules}
 use Rattle.phases.proofs.five.Goals as goal
 
 pub returns-then-k-lt4 : goal.returns-then-k-lt4

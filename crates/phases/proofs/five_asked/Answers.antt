@@ -3,8 +3,6 @@ use Prim.Native.Nat.{ℕ}
 use mathlib.Core.Path.{ap}
 use mathlib.Core.Bool.{not, ◌&&◌, true, false}
 use lib.Dec.{leb}
-use Rattle.phases.specs.declared.Plan.{Plan}
-use borrow.Author.Rules.{rules}
 use Rattle.phases.proofs.five_asked.Goals as goal
 
 pub returns : goal.returns

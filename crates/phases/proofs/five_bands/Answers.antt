@@ -1,5 +1,4 @@
 -- `five_bands`: by the number of the question, and by a gap.
-use borrow.Author.Rules.{rules}
 use borrow.Author.Tests.{lt-ltb, le-ltb, eq-eqb, ne_eqb}
 use Rattle.phases.specs.Phases.{five_bands_at}
 use Rattle.phases.proofs.five_bands.Goals as goal

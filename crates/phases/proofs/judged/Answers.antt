@@ -1,6 +1,5 @@
 -- `judged`: a gap, then a sum that is not finite.
 use Rattle.phases.proofs.Laws.{judges_gap, judges_infinite, judges_sum}
-use borrow.Author.Rules.{rules}
 use Rattle.phases.proofs.judged.Goals as goal
 
 pub returns-then-found-ne0 : goal.returns-then-found-ne0

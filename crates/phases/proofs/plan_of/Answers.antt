@@ -3,7 +3,6 @@ use mathlib.Core.Path.{sym, ap, ◌∙◌}
 use mathlib.Core.Bool.{Bool, false}
 use Rattle.phases.specs.Phases.{plan_of, five_asked}
 use Rattle.phases.specs.declared.Phase.{Phase}
-use borrow.Author.Rules.{rules}
 use Rattle.phases.proofs.plan_of.Goals as goal
 
 pub returns-in-Over : goal.returns-in-Over

@@ -1,6 +1,5 @@
 -- `waits`: by what is waited for.
 use Rattle.phases.proofs.Laws.{waits_evaluation, waits_trial, waits_look}
-use borrow.Author.Rules.{rules}
 use Rattle.phases.proofs.waits.Goals as goal
 
 pub returns-in-Evaluation : goal.returns-in-Evaluation

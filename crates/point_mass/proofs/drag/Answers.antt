@@ -1,5 +1,4 @@
 -- `drag` meets its contract: its tests are the definition's cases. Assumes nothing.
-use borrow.Author.Rules.{rules}
 use Rattle.point_mass.specs.Flight.{drag_of}
 use Rattle.point_mass.proofs.drag.Goals as goal
 

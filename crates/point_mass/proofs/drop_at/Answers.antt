@@ -1,5 +1,4 @@
 -- `drop_at` meets its contract: its tests are the definition's cases. Assumes nothing.
-use borrow.Author.Rules.{rules}
 use Rattle.point_mass.specs.Flight.{entry_at}
 use Rattle.point_mass.proofs.drop_at.Goals as goal
 

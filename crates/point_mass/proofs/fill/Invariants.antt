@@ -1,16 +1,11 @@
 -- `fill` meets its contract. The invariant: the entries of the first `i` distances lie over both lists. Assumes nothing.
-use Prim.Native.Nat.{ℕ, zero, suc, ◌≤◌, ◌<◌, ◌-◌, min}
-use mathlib.Core.Path.{◌≡◌, refl, ap, ◌∙◌}
-use mathlib.Core.List.{List, [], ◌∷◌, map}
-use native.Mathlib.Nat.{not-suc-le-zero, le_of_suc-le-suc}
-use native.Mathlib.Numerals.{add-one}
-use native.Mathlib.Omega.{arith}
-use borrow.Author.Rules.{rules}
-use lib.ListN.{length, get_or, take, set, length-set}
-use lib.Ieee.{nan}
+use Prim.Native.Nat.{◌≤◌, ◌-◌, min}
+use mathlib.Core.Path.{◌≡◌}
+use mathlib.Core.List.{map}
+use lib.ListN.{length, take}
 use Rattle.definition.specs.Run.{drop_or0, is_missing}
-use Rattle.slices.specs.Slices.{shortest_of, laid_over}
-use Rattle.point_mass.specs.Flight.{entry_at, entries_at}
+use Rattle.slices.specs.Slices.{laid_over}
+use Rattle.point_mass.specs.Flight.{entries_at}
 use Rattle.point_mass.proofs.fill.Given as goal
 
 abbrev pub invariant-loop-i : goal.invariant-loop-i

@@ -5,7 +5,6 @@ use mathlib.Core.Path.{◌≡◌, refl, sym, ap, ◌∙◌}
 use mathlib.Core.Bool.{cond}
 use native.Mathlib.Nat.{not-suc-le-zero}
 use native.Mathlib.Omega.{arith}
-use borrow.Author.Rules.{rules}
 use lib.Ieee.{Float, binary64, of_bits, lt, le}
 use Rattle.definition.specs.Run as run
 use Rattle.point_mass.specs.declared.Flight.{Flight}

@@ -1,5 +1,4 @@
 -- `in_unit` meets its contract, by the cases of the entry. Assumes nothing.
-use borrow.Author.Rules.{rules}
 use Rattle.point_mass.specs.Flight.{in_unit}
 use Rattle.point_mass.proofs.in_unit.Goals as goal
 

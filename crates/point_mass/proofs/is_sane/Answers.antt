@@ -1,5 +1,4 @@
 -- `is_sane` meets its contract, by the two tests. Assumes nothing.
-use borrow.Author.Rules.{rules}
 use Rattle.point_mass.specs.Flight.{is_sane}
 use Rattle.point_mass.proofs.is_sane.Goals as goal
 

@@ -1,5 +1,4 @@
 -- `is_within` meets its contract, by the law of finite. Assumes nothing.
-use borrow.Author.Rules.{rules}
 use Rattle.definition.specs.Whole.{within_of}
 use Rattle.point_mass.proofs.is_within.Goals as goal
 

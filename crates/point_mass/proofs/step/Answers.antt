@@ -1,5 +1,4 @@
 -- `step` meets its contract, by that of the drag. Assumes nothing.
-use borrow.Author.Rules.{rules}
 use Rattle.point_mass.specs.Flight.{step_of}
 use Rattle.point_mass.proofs.step.Goals as goal
 

@@ -1,10 +1,9 @@
 -- `chi_square` meets its contract: the sum is that of the first `i` records. Assumes nothing.
 use Prim.Native.Nat.{ℕ, suc, ◌<◌, min}
-use mathlib.Core.Path.{◌≡◌, refl, sym, ap, ◌∙◌, subst}
+use mathlib.Core.Path.{◌≡◌, sym, ap, ◌∙◌, subst}
 use mathlib.Core.List.{List, map}
 use native.Mathlib.Numerals.{add-one}
 use native.Mathlib.Omega.{arith}
-use borrow.Author.Rules.{rules}
 use lib.ListN.{length, get_or, take, length-map, get_or-map}
 use lib.Ieee.{Float, nan}
 use Rattle.numeric.specs.Numeric.{zero64}
@@ -43,8 +42,8 @@ loop-i-preserved c =
       v.0,
       omega arith,
       c.with_observation-sum.ensures
-      ∙ ap (λ (x : Float). with_shot x (observation_in (get_or os c.loop-i.i none)) (get_or ps c.loop-i.i nan)) v.2
-      ∙ rw add-one (one_more os ps c.loop-i.i none (omega arith) (omega arith)),
+          ∙ ap (λ (x : Float). with_shot x (observation_in (get_or os c.loop-i.i none)) (get_or ps c.loop-i.i nan)) v.2
+          ∙ rw add-one (one_more os ps c.loop-i.i none (omega arith) (omega arith)),
     )
 
 pub returns : goal.returns

@@ -1,6 +1,5 @@
 -- `report::band_at` meets its contract, by those of `place`, `row_at`, `sigma_of` and `band`. Assumes nothing.
 use Rattle.report.proofs.Laws.{bands_at_lem}
-use borrow.Author.Rules.{rules}
 use Rattle.report.proofs.band_at.Goals as goal
 
 pub returns-in_default : goal.returns-in_default

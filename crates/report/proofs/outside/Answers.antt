@@ -1,6 +1,5 @@
 -- `report::outside` meets its contract, by those of its three calls. Assumes nothing.
 use Rattle.report.specs.Places.{any_outside_of}
-use borrow.Author.Rules.{rules}
 use Rattle.report.proofs.outside.Goals as goal
 
 pub returns : goal.returns

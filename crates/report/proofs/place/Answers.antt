@@ -3,7 +3,6 @@ use mathlib.Core.Path.{sym}
 use native.Mathlib.Omega.{arith}
 use lib.Ieee.{nan}
 use Rattle.report.proofs.Laws.{nth_at, nth_past}
-use borrow.Author.Rules.{rules}
 use Rattle.report.proofs.place.Goals as goal
 
 pub returns-then-i-s : goal.returns-then-i-s

@@ -6,7 +6,6 @@ use mathlib.Core.Bool.{Bool}
 use mathlib.Core.List.{List}
 use mathlib.Core.Option.{Option}
 use lib.ListN.{length}
-use borrow.Author.Rules.{rules}
 use Rattle.definition.specs.Lists.{any, zip_with}
 use Rattle.definition.specs.Likelihood.{rows_of}
 use Rattle.definition.specs.Fit.{Fit}
@@ -19,7 +18,6 @@ use Rattle.definition.specs.declared.Evaluation.{Evaluation}
 use Rattle.definition.specs.declared.TruingPriorsV1.{TruingPriorsV1}
 use Rattle.definition.specs.declared.TruingApproximationV1.{TruingApproximationV1}
 use Rattle.definition.specs.declared.TruingUncertaintyWarningCodeV1.{TruingUncertaintyWarningCodeV1}
-use Rattle.fitting.specs.Meaning.{fit_of}
 use Rattle.fitting.specs.declared.Progress.{Progress}
 use Rattle.summary.specs.Summary.{diagnostics_says, diagnostics_by}
 use Rattle.summary.proofs.Laws.{diagnostics_by_lem}
@@ -27,7 +25,7 @@ use Rattle.summary.specs.declared.TruingUncertaintyDiagnosticsV1.{TruingUncertai
 use Rattle.warnings.specs.Warnings.{codes_of, warnings_by}
 use Rattle.warnings.proofs.Laws.{warnings_by_lem}
 use Rattle.warnings.specs.declared.Warnings.{Warnings}
-use Rattle.report.specs.Report.{Results, baseline_says, seen_of, PartsOf, Shows}
+use Rattle.report.specs.Report.{Results, seen_of, PartsOf, Shows}
 use Rattle.report.specs.declared.Baseline.{Baseline}
 use Rattle.report.specs.declared.UncertaintyTruingReportV1.{UncertaintyTruingReportV1}
 use Rattle.report.proofs.report.Goals as goal

@@ -1,6 +1,5 @@
 -- `report::result_at` meets its contract, by those of `place` and `observation_result`. Assumes nothing.
 use Rattle.report.proofs.Laws.{results_at_lem}
-use borrow.Author.Rules.{rules}
 use Rattle.report.proofs.result_at.Goals as goal
 
 pub returns-in_default : goal.returns-in_default

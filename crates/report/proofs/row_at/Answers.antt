@@ -1,6 +1,5 @@
 -- `report::row_at` meets its contract, by those of `place`: a place of the three lists is there where it is in each. Assumes nothing.
 use Rattle.report.proofs.Laws.{nth_zip3}
-use borrow.Author.Rules.{rules}
 use Rattle.report.proofs.row_at.Goals as goal
 
 pub returns-in_default : goal.returns-in_default

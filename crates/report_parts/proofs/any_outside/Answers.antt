@@ -1,8 +1,8 @@
 -- `any_outside`: over the first places.
-use mathlib.Core.Path.{◌≡◌, ap, ◌∙◌}
+use mathlib.Core.Path.{ap, ◌∙◌}
 use mathlib.Core.List.{List}
 use lib.Ieee.{Float}
-use lib.ListN.{length, take}
+use lib.ListN.{take}
 use borrow.Author.Rules.{rules}
 use Rattle.report.specs.Places.{any_outside_of}
 use Rattle.report_parts.proofs.Laws.{outside_places}

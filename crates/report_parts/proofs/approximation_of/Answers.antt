@@ -1,7 +1,6 @@
 -- `approximation_of`: by its two calls.
 use mathlib.Core.Path.{ap, ◌∙◌}
 use mathlib.Core.Bool.{Bool}
-use borrow.Author.Rules.{rules}
 use Rattle.definition.specs.Summary.{approximation_of}
 use Rattle.report_parts.proofs.approximation_of.Goals as goal
 

@@ -2,7 +2,6 @@
 use mathlib.Core.Path.{ap, ◌∙◌}
 use mathlib.Core.List.{List}
 use lib.Ieee.{Float}
-use borrow.Author.Rules.{rules}
 use Rattle.definition.specs.Lists.{zip_with, zip_with3}
 use Rattle.definition.specs.Likelihood.{row_of}
 use Rattle.definition.specs.Meaning.{approximation_says}

@@ -1,6 +1,4 @@
 -- `bands_count`: the arrays have 64 places.
-use mathlib.Core.Path.{◌≡◌}
-use lib.ListN.{length}
 use borrow.Author.Rules.{rules}
 use Rattle.report_parts.proofs.Laws.{counts_bands}
 use Rattle.report_parts.proofs.bands_count.Goals as goal

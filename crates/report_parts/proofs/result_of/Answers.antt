@@ -2,7 +2,6 @@
 use mathlib.Core.Path.{ap, ◌∙◌}
 use mathlib.Core.List.{List}
 use lib.Ieee.{Float}
-use borrow.Author.Rules.{rules}
 use Rattle.definition.specs.Meaning.{observations_of}
 use Rattle.definition.specs.Summary.{results_of}
 use Rattle.report.specs.Places.{nth}

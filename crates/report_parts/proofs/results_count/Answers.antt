@@ -1,6 +1,4 @@
 -- `results_count`: the arrays have 64 places.
-use mathlib.Core.Path.{◌≡◌}
-use lib.ListN.{length}
 use borrow.Author.Rules.{rules}
 use Rattle.report_parts.proofs.Laws.{counts_results}
 use Rattle.report_parts.proofs.results_count.Goals as goal

@@ -1,5 +1,4 @@
 -- `report_text::failure_word` meets its contract: the words computed. Assumes nothing.
-use borrow.Author.Rules.{rules}
 use Rattle.words.specs.Words.{word_at}
 use Rattle.report_text.proofs.failure_word.Goals as goal
 

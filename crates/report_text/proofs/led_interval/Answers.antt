@@ -1,5 +1,4 @@
 -- `report_text::led_interval` meets its contract. Assumes nothing.
-use borrow.Author.Rules.{rules}
 use Rattle.report_text.proofs.Writing.{then, same_room}
 use Rattle.report_text.proofs.led_interval.Goals as goal
 

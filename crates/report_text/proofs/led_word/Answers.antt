@@ -1,5 +1,4 @@
 -- `report_text::led_word` meets its contract. Assumes nothing.
-use borrow.Author.Rules.{rules}
 use Rattle.report_text.proofs.Writing.{then}
 use Rattle.report_text.proofs.led_word.Goals as goal
 

@@ -1,5 +1,4 @@
 -- `report_text::put_baseline_end` meets its contract. Assumes nothing.
-use borrow.Author.Rules.{rules}
 use Rattle.report_text.proofs.Writing.{as_text, same_room}
 use Rattle.report_text.specs.Pieces.{baseline_end}
 use Rattle.report_text.proofs.put_baseline_end.Goals as goal

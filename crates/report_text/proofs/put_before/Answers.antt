@@ -1,5 +1,4 @@
 -- `report_text::put_before` meets its contract. Assumes nothing.
-use borrow.Author.Rules.{rules}
 use Rattle.report_text.proofs.Writing.{as_text, same_room}
 use Rattle.report_text.proofs.Laws.{later}
 use Rattle.report_text.proofs.put_before.Goals as goal

@@ -1,5 +1,4 @@
 -- `report_text::put_byte` meets its contract. Assumes nothing.
-use borrow.Author.Rules.{rules}
 use Rattle.report_text.proofs.Writing.{byte_in, byte_out}
 use Rattle.report_text.proofs.put_byte.Goals as goal
 

@@ -1,11 +1,7 @@
 -- `report_text::put_bytes` meets its contract. The invariant: the bytes before i are written. Assumes nothing.
 use Prim.Native.Nat.{◌-◌, ◌≤◌}
-use borrow.Author.Rules.{rules}
-use native.Mathlib.Omega.{arith}
 use lib.ListN.{length, take}
-use lib.Seq.{take_all}
 use Rattle.report_text.specs.Writing.{Writes}
-use Rattle.report_text.proofs.Writing.{nothing, byte_more, as_text, same_room}
 use Rattle.report_text.proofs.put_bytes.Given as goal
 
 abbrev pub invariant-loop-i : goal.invariant-loop-i

@@ -1,5 +1,4 @@
 -- `report_text::put_count` meets its contract. The digits stand at the start of the 20 bytes. Assumes nothing.
-use borrow.Author.Rules.{rules}
 use Rattle.numerals.specs.Numbers.{count_text}
 use Rattle.report_text.proofs.Writing.{as_text}
 use Rattle.report_text.proofs.Starts.{text_fits, text_length, text_there}

@@ -1,5 +1,4 @@
 -- `report_text::put_diagnostics` meets its contract. Assumes nothing.
-use borrow.Author.Rules.{rules}
 use Rattle.report_text.proofs.Writing.{then, as_text, same_room}
 use Rattle.report_text.proofs.Laws.{diagnostics_parts}
 use Rattle.report_text.proofs.put_diagnostics.Goals as goal

@@ -1,5 +1,4 @@
 -- `report_text::put_double` meets its contract. Assumes nothing.
-use borrow.Author.Rules.{rules}
 use Rattle.report_text.proofs.Writing.{as_text}
 use Rattle.report_text.proofs.put_double.Goals as goal
 

@@ -1,5 +1,4 @@
 -- `report_text::put_mark` meets its contract. Assumes nothing.
-use borrow.Author.Rules.{rules}
 use Rattle.report_text.proofs.Writing.{then, as_text, same_room}
 use Rattle.report_text.specs.Pieces.{mark_text}
 use Rattle.report_text.proofs.put_mark.Goals as goal

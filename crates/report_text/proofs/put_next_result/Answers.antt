@@ -1,5 +1,4 @@
 -- `report_text::put_next_result` meets its contract. Assumes nothing.
-use borrow.Author.Rules.{rules}
 use Rattle.report_text.proofs.Writing.{then, same_room}
 use Rattle.report_text.proofs.put_next_result.Goals as goal
 

@@ -1,5 +1,4 @@
 -- `report_text::put_normal` meets its contract. Assumes nothing.
-use borrow.Author.Rules.{rules}
 use Rattle.report_text.proofs.Writing.{then, as_text, same_room}
 use Rattle.report_text.proofs.Laws.{in_brackets}
 use Rattle.report_text.specs.Texts.{normal_text}

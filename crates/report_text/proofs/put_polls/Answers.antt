@@ -1,5 +1,4 @@
 -- `report_text::put_polls` meets its contract. Assumes nothing.
-use borrow.Author.Rules.{rules}
 use mathlib.Core.Path.{ap}
 use mathlib.Core.List.{◌++◌}
 use Rattle.words.specs.Words.{bytes}

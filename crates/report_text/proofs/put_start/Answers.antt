@@ -1,5 +1,4 @@
 -- `report_text::put_start` meets its contract. Assumes nothing.
-use borrow.Author.Rules.{rules}
 use Rattle.report_text.proofs.Writing.{then}
 use Rattle.report_text.proofs.put_start.Goals as goal
 

@@ -1,6 +1,5 @@
 -- `report_text::put_warnings` meets its contract. Assumes nothing.
 use mathlib.Core.Path.{ap}
-use borrow.Author.Rules.{rules}
 use Rattle.report_text.proofs.Writing.{then, as_text}
 use Rattle.report_text.specs.Pieces.{marks_text}
 use Rattle.report_text.proofs.Laws.{warnings_parts}

@@ -1,5 +1,4 @@
 -- `report_text::put_word` meets its contract. The word stands at the start of the 32 bytes. Assumes nothing.
-use borrow.Author.Rules.{rules}
 use Rattle.words.specs.Words.{word_at}
 use Rattle.report_text.proofs.Writing.{as_text}
 use Rattle.report_text.proofs.Starts.{text_fits, text_length, text_there}

@@ -2,7 +2,6 @@ use Rattle.editing.proofs.Contracts.{Opened}
 use Rattle.opening.specs.Opening.{opening_of}
 use Rattle.definition.specs.Request.{Opening}
 use mathlib.Core.Path.{subst}
-use borrow.Author.Rules.{rules}
 use Rattle.requests.proofs.opened.Goals as goal
 
 pub returns : goal.returns

@@ -1,5 +1,4 @@
 -- `with_distance`: a distance more, or the arrays are full.
-use borrow.Author.Rules.{rules}
 use Rattle.requests.proofs.Kept.{distance_full, distance_more}
 use Rattle.requests.proofs.with_distance.Goals as goal
 

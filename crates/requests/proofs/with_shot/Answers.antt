@@ -1,5 +1,4 @@
 -- `with_shot`: a shot more, or the arrays are full.
-use borrow.Author.Rules.{rules}
 use Rattle.requests.proofs.Kept.{shot_full, shot_more}
 use Rattle.requests.proofs.with_shot.Goals as goal
 

@@ -2,9 +2,7 @@ use Rattle.requests.specs.Kept.{Keeps}
 use Rattle.requests.specs.Request.{with_distance, requested_with}
 use Rattle.definition.specs.declared.Number.{Number}
 use Rattle.definition.specs.Meaning.{number_of}
-use Rattle.definition.specs.Request.{Opening}
 use mathlib.Core.Path.{sym, subst}
-use borrow.Author.Rules.{rules}
 use Rattle.requests.proofs.with_wanted.Goals as goal
 
 pub returns-in-Absent : goal.returns-in-Absent

@@ -90,7 +90,7 @@ loop-k-preserved c =
     let m = c.args.m in
     let more : 0 < l.k = omega arith in
     elim c.if-t-r.branch [
-      then-t-r w ↦ rw (w.q-is, w.r-is) (digit_taken m l.q l.r l.p l.k more l.invariant w.if-t-r.true)
+      | then-t-r w ↦ rw (w.q-is, w.r-is) (digit_taken m l.q l.r l.p l.k more l.invariant w.if-t-r.true)
       | else-t-r w ↦ rw (w.q-is, w.r-is) (digit_left m l.q l.r l.p l.k more l.invariant w.if-t-r.false)
     ]
 

@@ -1,11 +1,7 @@
 -- `root::digits` meets its contract. With p the weight of the last digit, the invariant is 2 * q * q + r * p ≡ 2 * m * 2 ^ 52, with r too small for another
 -- digit there. The measure is the digits that are left. Assumes nothing.
-use mathlib.Core.Path.{◌≡◌, refl, sym, ap, ◌∙◌}
-use mathlib.Core.Logic.{⊎_elim}
-use Prim.Native.Nat.{ℕ, zero, suc, ◌+◌, ◌-◌, ◌*◌, ◌/◌, ◌^◌, ◌≤◌, ◌<◌}
-use native.Mathlib.Nat.{mul-one, zero-lt-suc}
-use native.Mathlib.Omega.{arith}
-use Rattle.root.proofs.Squares.{twice_pred}
+use mathlib.Core.Path.{◌≡◌}
+use Prim.Native.Nat.{ℕ, ◌+◌, ◌*◌, ◌^◌, ◌≤◌, ◌<◌}
 use Rattle.root.proofs.digits.Given as goal
 
 pub record Digits (m q r p k : ℕ) : Type 0 where

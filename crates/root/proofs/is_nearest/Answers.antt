@@ -6,7 +6,6 @@ use native.Mathlib.Nat.{mul-le-mul}
 use native.Mathlib.Omega.{arith}
 use lib.Dec.{ltb, leb, ltb→lt, leb→le}
 use lib.Ieee.Fits.{and_l, and_r}
-use borrow.Author.Rules.{rules}
 use Rattle.root.specs.Steps.{Rounds}
 use Rattle.root.proofs.Cases.{truth}
 use Rattle.root.proofs.is_nearest.Goals as goal

@@ -1,10 +1,7 @@
 -- `root::normalized` meets its contract. The loop keeps m * 2 ^ e, and m is at least 2 to the number of its turns, so that e stays above 1022. The measure
 -- is e. Assumes nothing.
-use mathlib.Core.Path.{◌≡◌, refl, ap, ◌∙◌}
-use Prim.Native.Nat.{ℕ, suc, ◌-◌, ◌*◌, ◌^◌, ◌≤◌, ◌<◌}
-use native.Mathlib.Nat.{pow-succ', mul-le-mul_left, lt_of_le_of_lt}
-use native.Mathlib.Omega.{arith}
-use Rattle.root.proofs.Squares.{power_lt, twice_pred}
+use mathlib.Core.Path.{◌≡◌}
+use Prim.Native.Nat.{◌-◌, ◌*◌, ◌^◌, ◌≤◌, ◌<◌}
 use Rattle.root.proofs.normalized.Given as goal
 
 abbrev pub invariant-loop-m : goal.invariant-loop-m

@@ -1,6 +1,5 @@
 -- `root::scaled` meets its contract: a pattern's number is its digits, by whether the exponent's field is 0. Assumes nothing.
 use native.Mathlib.Omega.{arith}
-use borrow.Author.Rules.{rules}
 use Rattle.root.proofs.Patterns.{subnormal}
 use Rattle.root.proofs.Scaling.{normal_scales}
 use Rattle.root.proofs.scaled.Goals as goal

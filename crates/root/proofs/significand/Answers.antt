@@ -1,5 +1,4 @@
 -- `root::significand` meets its contract: what the test says of each number tried, or what `digits` promises. Assumes nothing.
-use borrow.Author.Rules.{rules}
 use Rattle.root.proofs.significand.Goals as goal
 
 pub returns-then-is_nearest : goal.returns-then-is_nearest

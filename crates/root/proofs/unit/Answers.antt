@@ -2,7 +2,6 @@
 use Prim.Native.Nat.{◌+◌, ◌/◌}
 use native.Mathlib.Omega.{arith}
 use Rattle.root.proofs.Patterns.{finite_bits}
-use borrow.Author.Rules.{rules}
 use Rattle.root.proofs.unit.Goals as goal
 
 pub float_from_bits-result : goal.float_from_bits-result

@@ -1,6 +1,5 @@
 -- `root::whole` meets its contract. Assumes nothing.
 use Rattle.root.proofs.Cases.{not_nan}
-use borrow.Author.Rules.{rules}
 use Rattle.root.proofs.whole.Goals as goal
 
 pub float_to_bits-b : goal.float_to_bits-b

@@ -1,5 +1,4 @@
 -- `baseline_if`: by whether it is wanted.
-use borrow.Author.Rules.{rules}
 use Rattle.session.proofs.baseline_if.Goals as goal
 
 pub returns-then-here : goal.returns-then-here

@@ -1,6 +1,5 @@
 -- `baseline_result`: where a report stands that has a baseline.
 use mathlib.Core.Path.{sym, ◌∙◌}
-use borrow.Author.Rules.{rules}
 use borrow.Author.Tests.{not-true, not-false}
 use Rattle.session.proofs.Laws.{failed}
 use Rattle.session.proofs.Reading.{no_baseline_result, without_baseline_lem, a_baseline_result}

@@ -1,5 +1,4 @@
 -- `changed`: where a finished run stands and the edit fits its list.
-use borrow.Author.Rules.{rules}
 use mathlib.Core.Path.{refl, sym, ◌∙◌}
 use borrow.Author.Tests.{not-false}
 use Rattle.session.proofs.Laws.{held, failed}

@@ -1,5 +1,4 @@
 -- `counted`: by what is said.
-use borrow.Author.Rules.{rules}
 use Rattle.session.proofs.counted.Goals as goal
 
 pub returns-in-Question : goal.returns-in-Question

@@ -1,5 +1,4 @@
 -- `fit_of`: where a finished run stands.
-use borrow.Author.Rules.{rules}
 use mathlib.Core.Path.{sym, ◌∙◌}
 use borrow.Author.Tests.{not-false}
 use Rattle.session.proofs.Laws.{failed}

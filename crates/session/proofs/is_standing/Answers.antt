@@ -1,6 +1,5 @@
 -- `is_standing`: within the limits, and by what the phase says.
 use mathlib.Core.Bool.{◌&&◌}
-use borrow.Author.Rules.{rules}
 use Rattle.session.proofs.is_standing.Goals as goal
 
 pub returns : goal.returns

@@ -1,7 +1,6 @@
 -- `more`: by whether the count can still rise.
 use native.Mathlib.Numerals.{add-one}
 use borrow.Author.Tests.{lt-ltb, le-ltb}
-use borrow.Author.Rules.{rules}
 use Rattle.definition.specs.Session.{more_of}
 use Rattle.session.proofs.more.Goals as goal
 

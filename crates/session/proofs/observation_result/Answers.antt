@@ -1,6 +1,5 @@
 -- `observation_result`: where a report stands.
 use mathlib.Core.Path.{sym, ◌∙◌}
-use borrow.Author.Rules.{rules}
 use borrow.Author.Tests.{not-false}
 use Rattle.session.proofs.Laws.{failed}
 use Rattle.session.proofs.Reading.{no_result, a_result}

@@ -1,6 +1,5 @@
 -- `open`: by what the checks come to.
 use Rattle.session.proofs.Opens.{opened_refused, opened_asks}
-use borrow.Author.Rules.{rules}
 use Rattle.session.proofs.open.Goals as goal
 
 pub returns-in-Faulty : goal.returns-in-Faulty

@@ -1,6 +1,5 @@
 -- `predictive_band`: where a report stands.
 use mathlib.Core.Path.{sym, ◌∙◌}
-use borrow.Author.Rules.{rules}
 use borrow.Author.Tests.{not-false}
 use Rattle.session.proofs.Laws.{failed}
 use Rattle.session.proofs.Reading.{no_band, a_band}

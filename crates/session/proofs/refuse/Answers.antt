@@ -1,6 +1,5 @@
 -- `refuse`: by whether a question is open, and which.
 use Rattle.session.proofs.Refusals.{refuse_declined, refuse_baseline, refuse_ends}
-use borrow.Author.Rules.{rules}
 use Rattle.session.proofs.refuse.Goals as goal
 
 pub returns-then-not-within-plan : goal.returns-then-not-within-plan

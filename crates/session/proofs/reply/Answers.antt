@@ -5,7 +5,6 @@ use Rattle.stencil.specs.Stencil.{gap_after}
 use Rattle.phases.specs.declared.Plan.{Plan}
 use Rattle.session.specs.Meaning.{Before}
 use Rattle.session.proofs.Laid.{Parts, Steps, number_is, replied_declined, replied_taken}
-use borrow.Author.Rules.{rules}
 use Rattle.session.proofs.reply.Goals as goal
 
 pub returns-then-number-ne0 : goal.returns-then-number-ne0

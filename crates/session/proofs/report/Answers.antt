@@ -1,6 +1,5 @@
 -- `report`: where a report stands, by its parts.
 use mathlib.Core.Path.{sym, ◌∙◌}
-use borrow.Author.Rules.{rules}
 use borrow.Author.Tests.{not-false}
 use Rattle.session.proofs.Laws.{failed}
 use Rattle.session.proofs.Reading.{standing_within, head_of, shown, none_shown}

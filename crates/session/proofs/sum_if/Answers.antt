@@ -1,5 +1,4 @@
 -- `sum_if`: where an objective is asked for.
-use borrow.Author.Rules.{rules}
 use Rattle.session.proofs.sum_if.Goals as goal
 
 pub returns-then-here : goal.returns-then-here

@@ -1,7 +1,6 @@
 -- `first_bytes` meets its contract. Assumes nothing.
 use mathlib.Core.Path.{sym}
 use native.Mathlib.Nat.{le_of_lt}
-use borrow.Author.Rules.{rules}
 use lib.Seq.{length-take-le, take_all}
 use Rattle.slices.proofs.first_bytes.Goals as goal
 

@@ -1,5 +1,4 @@
 -- `shortest` meets its contract, by that of `shorter`, twice. Assumes nothing.
-use borrow.Author.Rules.{rules}
 use Rattle.slices.specs.Slices.{shortest_of}
 use Rattle.slices.proofs.shortest.Goals as goal
 

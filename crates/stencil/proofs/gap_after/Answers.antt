@@ -1,5 +1,4 @@
 -- `gap_after`: by the row.
-use borrow.Author.Rules.{rules}
 use borrow.Author.Tests.{eq-eqb, ne_eqb, lt-ltb, le-ltb}
 use Rattle.stencil.proofs.gap_after.Goals as goal
 

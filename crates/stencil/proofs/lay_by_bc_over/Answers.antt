@@ -6,7 +6,6 @@ use lib.Ieee.{Float}
 use Rattle.definition.specs.Run.{drop_or0}
 use Rattle.definition.specs.Session.{entries_of}
 use Rattle.stencil.specs.Stencil.{laid_pair}
-use borrow.Author.Rules.{rules}
 use Rattle.stencil.proofs.lay_by_bc_over.Goals as goal
 
 pub returns : goal.returns

@@ -1,5 +1,4 @@
 -- `lay_if`: by whether the reply goes here.
-use borrow.Author.Rules.{rules}
 use Rattle.stencil.proofs.lay_if.Goals as goal
 
 pub returns-then-here : goal.returns-then-here

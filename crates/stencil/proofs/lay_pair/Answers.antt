@@ -1,5 +1,4 @@
 -- `lay_pair`: by whether the reply goes here.
-use borrow.Author.Rules.{rules}
 use Rattle.stencil.proofs.lay_pair.Goals as goal
 
 pub returns-then-plus : goal.returns-then-plus

@@ -3,7 +3,6 @@ use mathlib.Core.Path.{ap, ◌∙◌}
 use Rattle.definition.specs.Session.{entries_of}
 use Rattle.stencil.specs.Stencil.{gap_after}
 use Rattle.stencil.proofs.Laws.{one_laid}
-use borrow.Author.Rules.{rules}
 use Rattle.stencil.proofs.read_one.Goals as goal
 
 pub returns : goal.returns

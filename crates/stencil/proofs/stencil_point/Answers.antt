@@ -1,7 +1,6 @@
 -- `stencil_point`: by the number of the question.
 use Prim.Native.Nat.{ℕ}
 use mathlib.Core.Path.{sym, ap, ◌∙◌}
-use borrow.Author.Rules.{rules}
 use Rattle.stencil.specs.Stencil.{point_at}
 use Rattle.stencil.proofs.Laws.{point_past}
 use Rattle.stencil.proofs.stencil_point.Goals as goal

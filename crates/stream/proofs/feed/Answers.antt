@@ -1,5 +1,4 @@
 -- `feed`: up to the end of a line, which is answered, or to the end of the bytes.
-use borrow.Author.Rules.{rules}
 use Rattle.stream.proofs.Bytes.{feed_line, feed_none}
 use Rattle.stream.proofs.feed.Goals as goal
 

@@ -1,6 +1,5 @@
 -- `finish`: a line without its line feed is malformed.
 use mathlib.Core.Path.{refl, ◌∙◌, sym, subst}
-use borrow.Author.Rules.{rules}
 use Rattle.conversation.specs.Tracks.{Fills}
 use Rattle.stream.proofs.Bytes.{unended_some, unended_none}
 use Rattle.stream.proofs.finish.Goals as goal

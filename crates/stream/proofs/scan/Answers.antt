@@ -1,15 +1,12 @@
-use Prim.Native.Nat.{ℕ, ◌-◌}
+use Prim.Native.Nat.{ℕ}
 use mathlib.Core.Path.{◌∙◌, ap}
-use mathlib.Core.Bool.{Bool, false}
+use mathlib.Core.Bool.{false}
 use mathlib.Core.List.{List}
-use borrow.Author.Rules.{rules}
 use borrow.Author.Tests.{eq-eqb, ne_eqb}
 use native.Mathlib.Omega.{arith}
-use lib.ListN.{length, get_or}
+use lib.ListN.{get_or}
 use Rattle.lines.specs.Reading.{take_of}
-use Rattle.lines.specs.declared.Line.{Line}
-use Rattle.stream.specs.declared.Reader.{Reader}
-use Rattle.stream.proofs.Bytes.{reads_blank, reads_full, reads_more, Scanning, scan_starts, scan_on, scan_ends, scan_stops}
+use Rattle.stream.proofs.Bytes.{reads_blank, reads_full, reads_more, scan_starts, scan_on, scan_ends, scan_stops}
 use Rattle.stream.proofs.scan.Invariants.{reader_in}
 use Rattle.stream.proofs.scan.Goals as goal
 

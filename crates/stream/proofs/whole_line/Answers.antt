@@ -1,10 +1,9 @@
-use mathlib.Core.Bool.{true, false}
+use mathlib.Core.Bool.{true}
 use Rattle.lines.specs.Reading.{take_of, form_in}
 use mathlib.Core.List.{List}
 use Prim.Native.Nat.{ℕ}
 use mathlib.Core.Path.{◌∙◌, ap}
 use Rattle.stream.proofs.Bytes.{ends_line}
-use borrow.Author.Rules.{rules}
 use Rattle.stream.proofs.whole_line.Goals as goal
 
 pub returns : goal.returns

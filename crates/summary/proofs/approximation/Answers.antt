@@ -1,5 +1,4 @@
 -- `summary::approximation` meets its contract, by the two tests and the contract of `build_approximation`. Assumes nothing.
-use Rattle.std.proofs.Common.{rules}
 use Rattle.definition.specs.Summary.{approximation_of}
 use Rattle.summary.proofs.approximation.Goals as goal
 

@@ -1,5 +1,4 @@
 -- `summary::build_approximation` meets its contract, by the case of the inverse. Assumes nothing.
-use Rattle.std.proofs.Common.{rules}
 use Rattle.definition.specs.Summary.{build_approximation_of}
 use Rattle.summary.proofs.build_approximation.Goals as goal
 

@@ -1,5 +1,4 @@
 -- `summary::convergence_criterion` meets its contract, by cases. Assumes nothing.
-use Rattle.std.proofs.Common.{rules}
 use Rattle.summary.proofs.convergence_criterion.Goals as goal
 
 pub returns-in-NotConverged : goal.returns-in-NotConverged

@@ -1,5 +1,4 @@
 -- `summary::correlation` meets its contract, by that of the root. Assumes nothing.
-use Rattle.std.proofs.Common.{rules}
 use Rattle.definition.specs.Summary.{correlation_of}
 use Rattle.summary.proofs.correlation.Goals as goal
 

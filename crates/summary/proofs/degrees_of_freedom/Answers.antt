@@ -1,5 +1,4 @@
 -- `summary::degrees_of_freedom` meets its contract, by cases. Assumes nothing.
-use Rattle.std.proofs.Common.{rules}
 use Rattle.summary.proofs.degrees_of_freedom.Goals as goal
 
 pub returns-in-Absent : goal.returns-in-Absent

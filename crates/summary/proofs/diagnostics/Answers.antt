@@ -1,5 +1,5 @@
 -- `summary::diagnostics` meets its contract, by those of the seven calls, put together over plain values. Assumes nothing.
-use Rattle.std.proofs.Common.{◌≡◌, ℕ, rules}
+use Rattle.std.proofs.Common.{◌≡◌, ℕ}
 use lib.Ieee.{Float}
 use Rattle.definition.specs.Constants.{◌⊕◌}
 use Rattle.definition.specs.Fit.{gradient_norm_of}

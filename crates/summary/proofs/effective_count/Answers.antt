@@ -1,5 +1,4 @@
 -- `summary::effective_count` meets its contract, by that of `clamp`. Assumes nothing.
-use Rattle.std.proofs.Common.{rules}
 use Rattle.definition.specs.Summary.{effective_count_of}
 use Rattle.summary.proofs.effective_count.Goals as goal
 

@@ -1,5 +1,4 @@
 -- `summary::effective_parameter_count` meets its contract, by that of `effective_count`, where there is an approximation. Assumes nothing.
-use Rattle.std.proofs.Common.{rules}
 use Rattle.summary.proofs.effective_parameter_count.Goals as goal
 
 pub returns-in-Available : goal.returns-in-Available

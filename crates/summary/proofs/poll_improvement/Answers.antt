@@ -1,5 +1,4 @@
 -- `summary::poll_improvement` meets its contract, by cases. Assumes nothing.
-use Rattle.std.proofs.Common.{rules}
 use Rattle.summary.proofs.poll_improvement.Goals as goal
 
 pub returns-in-NotConverged : goal.returns-in-NotConverged

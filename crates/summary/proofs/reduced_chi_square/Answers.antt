@@ -1,5 +1,4 @@
 -- `summary::reduced_chi_square` meets its contract, by cases, and the test of the degrees of freedom. Assumes nothing.
-use Rattle.std.proofs.Common.{rules}
 use Rattle.summary.proofs.reduced_chi_square.Goals as goal
 
 pub returns-then-x : goal.returns-then-x

@@ -1,5 +1,4 @@
 -- `summary::with_covariance` meets its contract, each return by the tests and the calls that lead to it. Assumes nothing.
-use Rattle.std.proofs.Common.{rules}
 use Rattle.summary.proofs.with_covariance.Goals as goal
 
 pub returns-in_default : goal.returns-in_default

@@ -1,9 +1,8 @@
 -- `thousandths::nearest` meets its contract: the three tests are the three cases of the comparison. Assumes nothing.
-use Prim.Native.Nat.{ℕ, ◌+◌, ◌*◌, ◌/◌, ◌%◌, ◌^◌, ◌<◌, ◌≤◌}
+use Prim.Native.Nat.{ℕ, ◌^◌, ◌<◌}
 use mathlib.Core.Path.{◌≡◌, sym, subst}
 use native.Mathlib.Nat.{mod-le, div-le_self}
 use native.Mathlib.Omega.{arith}
-use borrow.Author.Rules.{rules}
 use lib.Pow.{pow_pos}
 use lib.Ieee.Nearest.{closest}
 use Rattle.thousandths.proofs.Rounding.{closest_below, closest_tie, closest_above}

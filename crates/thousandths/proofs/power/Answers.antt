@@ -1,9 +1,8 @@
 -- `thousandths::power` meets its contract: below 64 the shift loses nothing. Assumes nothing.
 use Prim.Native.Nat.{ℕ, ◌*◌, ◌%◌, ◌^◌, ◌<◌}
-use mathlib.Core.Path.{◌≡◌, ◌∙◌}
+use mathlib.Core.Path.{◌≡◌}
 use native.Mathlib.Nat.{mod-eq_of_lt, one-mul}
 use native.Mathlib.Omega.{arith}
-use borrow.Author.Rules.{rules}
 use lib.Pow.{pow-lt}
 use Rattle.thousandths.proofs.power.Goals as goal
 

@@ -1,9 +1,7 @@
 -- `thousandths::show` meets its contract: what is not finite, what is too wide, and the rest by its thousandths. Assumes nothing.
 use Prim.Native.Nat.{ℕ, ◌*◌, ◌%◌, ◌^◌, ◌<◌}
 use mathlib.Core.Path.{◌≡◌, sym, ap, ◌∙◌, subst}
-use mathlib.Core.Bool.{Bool, true}
-use native.Mathlib.Omega.{arith}
-use borrow.Author.Rules.{rules}
+use mathlib.Core.Bool.{true}
 use lib.Dec.{T, leb}
 use lib.Pow.{pow_pos}
 use lib.Ieee.{Float, binary64, fits, of_bits, to_bits}
@@ -12,7 +10,6 @@ use lib.Ieee.Nearest.{closest}
 use Rattle.root.specs.Nearest.{magnitude, infinity}
 use Rattle.root.proofs.Cases.{not_nan}
 use Rattle.thousandths.specs.Thousandths.{shown_at, shown_of}
-use Rattle.thousandths.specs.declared.Shown.TheVariants.{Hyphen, Hashes}
 use Rattle.thousandths.proofs.Patterns.{bits_value, shown_value, nan_shown, not_finite, wide_shown}
 use Rattle.thousandths.proofs.show.Goals as goal
 

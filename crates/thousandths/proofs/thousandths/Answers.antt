@@ -1,9 +1,8 @@
 -- `thousandths::thousandths` meets its contract: under the field 1012 the number is less than half a thousandth; from there on it is its digits over a
 -- power of two. Assumes nothing.
-use Prim.Native.Nat.{ℕ, suc, ◌+◌, ◌-◌, ◌/◌, ◌^◌}
-use mathlib.Core.Path.{◌≡◌, ◌∙◌}
+use Prim.Native.Nat.{◌-◌, ◌/◌, ◌^◌}
+use mathlib.Core.Path.{◌∙◌}
 use native.Mathlib.Omega.{arith}
-use borrow.Author.Rules.{rules}
 use Rattle.thousandths.proofs.Patterns.{small_thousandths, normal_thousandths}
 use Rattle.thousandths.proofs.thousandths.Goals as goal
 

@@ -1,13 +1,9 @@
 -- `warnings::any_outside` meets its contract. The invariant: the whole list has one outside exactly if what is left has. Assumes nothing.
-use Prim.Native.Nat.{◌≤◌, ◌-◌}
-use mathlib.Core.Path.{◌≡◌, refl, sym, ◌∙◌}
+use mathlib.Core.Path.{refl, sym, ◌∙◌}
 use native.Mathlib.Numerals.{add-one}
 use native.Mathlib.Omega.{arith}
-use borrow.Author.Rules.{rules}
-use lib.ListN.{length, drop}
 use lib.Seq.{drop-cons}
 use lib.Ieee.{nan}
-use Rattle.definition.specs.Lists.{any}
 use Rattle.definition.proofs.Reading.{rest_none, any_here, any_next, any_none}
 use Rattle.warnings.specs.Warnings.{outside_of}
 use Rattle.warnings.proofs.any_outside.Goals as goal

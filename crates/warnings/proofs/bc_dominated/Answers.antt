@@ -1,5 +1,4 @@
 -- `warnings::bc_dominated` meets its contract, by that of `dominated`, where there is an approximation. Assumes nothing.
-use borrow.Author.Rules.{rules}
 use Rattle.warnings.specs.Warnings.{bc_dominated_of}
 use Rattle.warnings.proofs.bc_dominated.Goals as goal
 

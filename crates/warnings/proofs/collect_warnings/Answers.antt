@@ -3,7 +3,6 @@ use mathlib.Core.Path.{◌≡◌}
 use mathlib.Core.Bool.{Bool, not}
 use mathlib.Core.Option.{Option}
 use lib.Ieee.{Float, lt}
-use borrow.Author.Rules.{rules}
 use Rattle.definition.specs.Constants.{least_sensitivity_ratio}
 use Rattle.definition.specs.Mesh.{Convergence}
 use Rattle.definition.specs.Meaning.{number_of, convergence_of, approximation_says}

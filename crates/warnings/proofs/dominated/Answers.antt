@@ -1,5 +1,4 @@
 -- `warnings::dominated` meets its contract, by cases. Assumes nothing.
-use borrow.Author.Rules.{rules}
 use Rattle.definition.specs.Summary.{dominated_of}
 use Rattle.warnings.proofs.dominated.Goals as goal
 

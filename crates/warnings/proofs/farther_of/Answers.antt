@@ -1,5 +1,4 @@
 -- `warnings::farther_of` meets its contract, by its test. Assumes nothing.
-use borrow.Author.Rules.{rules}
 use Rattle.warnings.proofs.farther_of.Goals as goal
 
 pub returns-then-m-d : goal.returns-then-m-d

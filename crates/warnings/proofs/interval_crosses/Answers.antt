@@ -1,5 +1,4 @@
 -- `warnings::interval_crosses` meets its contract, by that of `crosses_bounds`, where there is an approximation. Assumes nothing.
-use borrow.Author.Rules.{rules}
 use Rattle.warnings.specs.Warnings.{interval_crosses_of}
 use Rattle.warnings.proofs.interval_crosses.Goals as goal
 

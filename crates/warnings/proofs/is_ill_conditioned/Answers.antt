@@ -1,5 +1,4 @@
 -- `warnings::is_ill_conditioned` meets its contract, by that of `is_finite`. Assumes nothing.
-use borrow.Author.Rules.{rules}
 use Rattle.warnings.specs.Warnings.{ill_conditioned_of}
 use Rattle.warnings.proofs.is_ill_conditioned.Goals as goal
 

@@ -1,5 +1,4 @@
 -- `warnings::is_low` meets its contract, by cases. Assumes nothing.
-use borrow.Author.Rules.{rules}
 use Rattle.warnings.proofs.is_low.Goals as goal
 
 pub returns-in-Absent : goal.returns-in-Absent

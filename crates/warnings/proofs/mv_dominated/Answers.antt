@@ -1,5 +1,4 @@
 -- `warnings::mv_dominated` meets its contract, by that of `dominated`, where there is an approximation. Assumes nothing.
-use borrow.Author.Rules.{rules}
 use Rattle.warnings.specs.Warnings.{mv_dominated_of}
 use Rattle.warnings.proofs.mv_dominated.Goals as goal
 

@@ -1,5 +1,4 @@
 -- `warnings::nearer_of` meets its contract, by its test. Assumes nothing.
-use borrow.Author.Rules.{rules}
 use Rattle.warnings.proofs.nearer_of.Goals as goal
 
 pub returns-then-d-m : goal.returns-then-d-m

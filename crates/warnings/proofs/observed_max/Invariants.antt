@@ -1,13 +1,8 @@
 -- `warnings::observed_max` meets its contract. The invariant: a fold of what is left, from the farthest so far, gives the whole fold. Assumes nothing.
 use Prim.Native.Nat.{◌≤◌, ◌-◌}
-use mathlib.Core.Path.{◌≡◌, refl, sym, ◌∙◌}
+use mathlib.Core.Path.{◌≡◌}
 use mathlib.Core.List.{foldl}
-use native.Mathlib.Numerals.{add-one}
-use native.Mathlib.Omega.{arith}
-use borrow.Author.Rules.{rules}
 use lib.ListN.{length, drop}
-use lib.Ieee.{nan, neg}
-use Rattle.definition.proofs.Reading.{fold_next, fold_end}
 use Rattle.definition.specs.Summary.{farther}
 use Rattle.warnings.specs.Warnings.{farthest_of}
 use Rattle.warnings.proofs.observed_max.Given as goal

@@ -1,11 +1,7 @@
 -- `warnings::observed_min` meets its contract. The invariant: a fold of what is left, from the nearest so far, gives the whole fold. Assumes nothing.
-use Prim.Native.Nat.{◌≤◌, ◌-◌}
-use mathlib.Core.Path.{◌≡◌, refl, sym, ◌∙◌}
-use mathlib.Core.List.{foldl}
+use mathlib.Core.Path.{sym, ◌∙◌}
 use native.Mathlib.Numerals.{add-one}
 use native.Mathlib.Omega.{arith}
-use borrow.Author.Rules.{rules}
-use lib.ListN.{length, drop}
 use lib.Ieee.{nan}
 use Rattle.definition.proofs.Reading.{fold_next, fold_end}
 use Rattle.definition.specs.Summary.{nearer}

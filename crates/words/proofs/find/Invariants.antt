@@ -1,13 +1,9 @@
 -- `words::find` meets its contract. The invariant: the place is k and how far it is from there. Assumes nothing.
 use Prim.Native.Nat.{◌+◌, ◌-◌, ◌≤◌}
-use mathlib.Core.Path.{◌≡◌, sym, ◌∙◌}
-use native.Mathlib.Numerals.{add-one}
-use native.Mathlib.Omega.{arith}
-use borrow.Author.Rules.{rules}
+use mathlib.Core.Path.{◌≡◌}
 use lib.ListN.{length}
 use Rattle.words.specs.Words.{words, place_of}
-use Rattle.words.proofs.Rule.{low_none}
-use Rattle.words.proofs.Rows.{ahead, ahead_all, ahead_here, ahead_on, ahead_none}
+use Rattle.words.proofs.Rows.{ahead}
 use Rattle.words.proofs.find.Given as goal
 
 abbrev pub invariant-loop-k : goal.invariant-loop-k

@@ -1,5 +1,4 @@
 -- `words::is_low` meets its contract. Assumes nothing.
-use borrow.Author.Rules.{rules}
 use Rattle.words.proofs.Rows.{low_empty, low_first}
 use Rattle.words.proofs.is_low.Goals as goal
 

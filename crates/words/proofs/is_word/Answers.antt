@@ -1,15 +1,14 @@
 -- `words::is_word` meets its contract. The invariant: what is left is the rest of the row where the whole is the row. Assumes nothing.
-use Prim.Native.Nat.{ℕ, ◌-◌, ◌≤◌, ◌<◌}
+use Prim.Native.Nat.{ℕ, ◌<◌}
 use mathlib.Core.Path.{◌≡◌, refl, sym, ap, ◌∙◌}
 use native.Mathlib.Numerals.{add-one}
 use native.Mathlib.Omega.{arith}
-use borrow.Author.Rules.{rules}
 use lib.Dec.{eqb}
-use lib.ListN.{length, drop, get_or}
+use lib.ListN.{length, get_or}
 use Rattle.words.specs.Words.{word_at}
 use Rattle.words.specs.Rows.{padded}
 use Rattle.words.proofs.Rule.{same_length}
-use Rattle.words.proofs.Rows.{row_is, is_row, row_on, row_off, row_full, row_ends_lem, row_32, word_short}
+use Rattle.words.proofs.Rows.{is_row, row_on, row_off, row_full, row_ends_lem, row_32, word_short}
 use Rattle.words.proofs.is_word.Goals as goal
 
 pub returns-then-n-gt32 : goal.returns-then-n-gt32

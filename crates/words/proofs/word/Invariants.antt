@@ -1,12 +1,9 @@
 -- `words::word` meets its contract. The invariant: the word's first bytes stand there, and blanks behind them. Assumes nothing.
 use Prim.Native.Nat.{◌-◌, ◌≤◌}
-use mathlib.Core.Path.{◌≡◌, refl, sym, ◌∙◌}
-use native.Mathlib.Numerals.{add-one}
-use native.Mathlib.Omega.{arith}
-use borrow.Author.Rules.{rules}
+use mathlib.Core.Path.{◌≡◌}
 use lib.ListN.{length}
 use Rattle.words.specs.Words.{word_at}
-use Rattle.words.proofs.Rows.{filled, goes_on_lem, ends_there, one_more, word_short, filled_whole}
+use Rattle.words.proofs.Rows.{filled}
 use Rattle.words.proofs.word.Given as goal
 
 abbrev pub invariant-loop-i : goal.invariant-loop-i

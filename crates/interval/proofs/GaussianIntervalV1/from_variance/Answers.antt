@@ -1,5 +1,4 @@
 -- `GaussianIntervalV1::from_variance` meets its contract: each return by the tests and the calls that lead to it. Assumes nothing.
-use borrow.Author.Rules.{rules}
 use Rattle.interval.specs.Interval.{interval_of, interval_where, classification_of}
 use Rattle.interval.proofs.GaussianIntervalV1.from_variance.Goals as goal
 

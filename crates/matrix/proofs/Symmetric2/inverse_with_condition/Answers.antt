@@ -3,7 +3,6 @@
 use mathlib.Core.Path.{◌≡◌}
 use mathlib.Core.Bool.{Bool, false, not, ◌||◌}
 use lib.Ieee.{Float, binary64, div, le}
-use borrow.Author.Rules.{rules}
 use Rattle.numeric.specs.Numeric.{zero64, finite}
 use Rattle.matrix.specs.declared.Symmetric2.{Symmetric2}
 use Rattle.matrix.specs.Matrix.{determinant_of, entries_finite, largest_of, tolerance, inverse_entries, inverse, inverse_of}

@@ -1,5 +1,4 @@
 -- `Symmetric2::is_finite` meets its contract, by that of the entries' test. Assumes nothing.
-use borrow.Author.Rules.{rules}
 use Rattle.matrix.specs.Matrix.{entries_finite}
 use Rattle.matrix.proofs.Symmetric2.is_finite.Goals as goal
 

@@ -1,5 +1,4 @@
 -- `Symmetric2::largest_eigenvalue` meets its contract, by that of `hypot`. Assumes nothing.
-use borrow.Author.Rules.{rules}
 use Rattle.matrix.specs.Matrix.{largest_of}
 use Rattle.matrix.proofs.Symmetric2.largest_eigenvalue.Goals as goal
 

@@ -1,5 +1,4 @@
 -- `DropUnit::express_drop_m` meets its contract, case by case. Assumes nothing.
-use borrow.Author.Rules.{rules}
 use Rattle.numeric.specs.Drop.{express_of}
 use Rattle.numeric.proofs.DropUnit.express_drop_m.Goals as goal
 
