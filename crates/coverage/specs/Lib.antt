@@ -1,0 +1,5 @@
+pub mod File
+pub mod Table
+pub mod Reading
+pub mod Loading
+pub mod Rows
