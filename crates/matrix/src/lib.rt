@@ -67,7 +67,8 @@ impl Symmetric2 {
         }
         let largest = self.largest_eigenvalue();
         let determinant = self.determinant();
-        if !numeric::is_finite(largest) | !numeric::is_finite(determinant) {
+        let unbounded = !numeric::is_finite(largest) | !numeric::is_finite(determinant);
+        if unbounded {
             return Inverse::NonFiniteInformation;
         }
         if (largest <= 0.0) | (determinant <= 0.0) {

@@ -9,12 +9,10 @@ returns-then-information c = simp (c.if-information.true, ← c.infinity.ensures
 pub returns-then-correlation : goal.returns-then-correlation
 unfolding column_condition_of
 returns-then-correlation c =
-    let c1 = c in
-    let c2 = c1 in
     simp (
-      c2.if-information.false,
-      ← c1.root-scale.ensures,
-      ← c1.clamp.ensures,
+      c.if-information.false,
+      ← c.root-scale.ensures,
+      ← c.clamp.ensures,
       ← c.abs-correlation.ensures,
       c.if-correlation.true,
       ← c.infinity-then-correlation.ensures,
@@ -23,5 +21,4 @@ returns-then-correlation c =
 pub returns : goal.returns
 unfolding column_condition_of
 returns c =
-    let c1 = c in
-    simp (c1.if-information.false, ← c1.root-scale.ensures, ← c.clamp.ensures, ← c.abs-correlation.ensures, c.if-correlation.false)
+    simp (c.if-information.false, ← c.root-scale.ensures, ← c.clamp.ensures, ← c.abs-correlation.ensures, c.if-correlation.false)

@@ -11,5 +11,4 @@ returns-then-s c = sym (a_leading_zero c.args.s.now c.if-s.true)
 
 pub returns : goal.returns
 returns c =
-    let c1 = c in
-    c.number.ensures ∙ sym (no_leading_zero c1.args.s.now c1.if-s-eq0.false c.if-s.false)
+    c.number.ensures ∙ sym (no_leading_zero c.args.s.now c.if-s-eq0.false c.if-s.false)

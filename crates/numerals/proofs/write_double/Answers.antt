@@ -5,5 +5,4 @@ use Rattle.numerals.proofs.write_double.Goals as goal
 
 pub returns : goal.returns
 returns c =
-    let c1 = c in
-    c.spell.ensures ∙ in_16 c1.pattern.result c1.args.x c1.pattern.ensures
+    c.spell.ensures ∙ in_16 c.pattern.result c.args.x c.pattern.ensures

@@ -9,17 +9,15 @@ returns-then-a-infinite c = simp (hypot_by_tests, ← c.abs-a.ensures, ← c.abs
 pub returns-then-a-b : goal.returns-then-a-b
 unfolding div of_bits
 returns-then-a-b c =
-    let c1 = c in
-    simp (hypot_by_tests, ← c1.abs-a.ensures, ← c1.abs-b.ensures, ← c.infinity-infinite.ensures, c.if-a-infinite.false, c.if-a-b.true)
+    simp (hypot_by_tests, ← c.abs-a.ensures, ← c.abs-b.ensures, ← c.infinity-infinite.ensures, c.if-a-infinite.false, c.if-a-b.true)
 
 pub returns-then-a-b-2 : goal.returns-then-a-b-2
 returns-then-a-b-2 c =
-    let c1 = c in
     simp (
       hypot_by_tests,
-      ← c1.abs-a.ensures,
-      ← c1.abs-b.ensures,
-      ← c1.infinity-infinite.ensures,
+      ← c.abs-a.ensures,
+      ← c.abs-b.ensures,
+      ← c.infinity-infinite.ensures,
       c.if-a-infinite.false,
       c.if-a-b.false,
       c.if-a-b-2.true,
@@ -27,15 +25,13 @@ returns-then-a-b-2 c =
 
 pub returns-then-a-b-3 : goal.returns-then-a-b-3
 returns-then-a-b-3 c =
-    let c1 = c in
-    let c2 = c1 in
     simp (
       hypot_by_tests,
-      ← c2.abs-a.ensures,
-      ← c2.abs-b.ensures,
-      ← c1.infinity-infinite.ensures,
-      c1.if-a-infinite.false,
-      c1.if-a-b.false,
+      ← c.abs-a.ensures,
+      ← c.abs-b.ensures,
+      ← c.infinity-infinite.ensures,
+      c.if-a-infinite.false,
+      c.if-a-b.false,
       c.if-a-b-2.false,
       c.if-a-b-3.true,
       ← c.scaled.ensures,
@@ -43,15 +39,13 @@ returns-then-a-b-3 c =
 
 pub returns : goal.returns
 returns c =
-    let c1 = c in
-    let c2 = c1 in
     simp (
       hypot_by_tests,
-      ← c2.abs-a.ensures,
-      ← c2.abs-b.ensures,
-      ← c1.infinity-infinite.ensures,
-      c1.if-a-infinite.false,
-      c1.if-a-b.false,
+      ← c.abs-a.ensures,
+      ← c.abs-b.ensures,
+      ← c.infinity-infinite.ensures,
+      c.if-a-infinite.false,
+      c.if-a-b.false,
       c.if-a-b-2.false,
       c.if-a-b-3.false,
       ← c.scaled-2.ensures,

@@ -13,17 +13,15 @@ returns-then-not-is_finite-2 c = simp (← c.is_finite.ensures, c.if-not-is_fini
 pub returns-then-variance : goal.returns-then-variance
 unfolding interval_of interval_where classification_of
 returns-then-variance c =
-    let c1 = c in
-    simp (← c1.is_finite.ensures, c1.if-not-is_finite.false-raw, ← c.is_finite-2.ensures, c.if-not-is_finite-2.false-raw, c.if-variance.true)
+    simp (← c.is_finite.ensures, c.if-not-is_finite.false-raw, ← c.is_finite-2.ensures, c.if-not-is_finite-2.false-raw, c.if-variance.true)
 
 pub returns : goal.returns
 unfolding interval_of interval_where classification_of
 returns c =
-    let c1 = c in
     simp (
-      ← c1.is_finite.ensures,
-      c1.if-not-is_finite.false-raw,
-      ← c1.is_finite-2.ensures,
+      ← c.is_finite.ensures,
+      c.if-not-is_finite.false-raw,
+      ← c.is_finite-2.ensures,
       c.if-not-is_finite-2.false-raw,
       c.if-variance.false,
       ← c.root-standard_deviation.ensures,

@@ -24,51 +24,44 @@ pub returns-then-not-is_finite : goal.returns-then-not-is_finite
 unfolding inverse_of inverse_entries
 returns-then-not-is_finite c = simp (← c.is_finite.ensures, c.if-not-is_finite.true-raw)
 
-pub returns-then-is_finite : goal.returns-then-is_finite
+pub returns-then-unbounded : goal.returns-then-unbounded
 unfolding inverse_of inverse_entries
-returns-then-is_finite c =
-    let c1 = c in
-    let c2 = c1 in
+returns-then-unbounded c =
     simp (
-      ← c2.is_finite.ensures,
-      c1.if-not-is_finite.false-raw,
-      ← c1.largest_eigenvalue-largest.ensures,
-      ← c1.determinant-determinant.ensures,
+      ← c.is_finite.ensures,
+      c.if-not-is_finite.false-raw,
+      ← c.largest_eigenvalue-largest.ensures,
+      ← c.determinant-determinant.ensures,
       ← c.is_finite-2.ensures,
       ← c.is_finite-3.ensures,
-      c.if-is_finite.true,
+      c.if-unbounded.true,
     )
 
 pub returns-then-largest-determinant : goal.returns-then-largest-determinant
 unfolding inverse_of inverse_entries
 returns-then-largest-determinant c =
-    let c1 = c in
-    let c2 = c1 in
     simp (
-      ← c2.is_finite.ensures,
-      c2.if-not-is_finite.false-raw,
-      ← c1.largest_eigenvalue-largest.ensures,
-      ← c1.determinant-determinant.ensures,
-      ← c1.is_finite-2.ensures,
+      ← c.is_finite.ensures,
+      c.if-not-is_finite.false-raw,
+      ← c.largest_eigenvalue-largest.ensures,
+      ← c.determinant-determinant.ensures,
+      ← c.is_finite-2.ensures,
       ← c.is_finite-3.ensures,
-      c.if-is_finite.false,
+      c.if-unbounded.false,
       c.if-largest-determinant.true,
     )
 
 pub returns-then-is_finite-smallest : goal.returns-then-is_finite-smallest
 unfolding inverse_of inverse_entries
 returns-then-is_finite-smallest c =
-    let c1 = c in
-    let c2 = c1 in
-    let c3 = c2 in
     simp (
-      ← c3.is_finite.ensures,
-      c2.if-not-is_finite.false-raw,
-      ← c2.largest_eigenvalue-largest.ensures,
-      ← c2.determinant-determinant.ensures,
-      ← c1.is_finite-2.ensures,
-      ← c1.is_finite-3.ensures,
-      c1.if-is_finite.false,
+      ← c.is_finite.ensures,
+      c.if-not-is_finite.false-raw,
+      ← c.largest_eigenvalue-largest.ensures,
+      ← c.determinant-determinant.ensures,
+      ← c.is_finite-2.ensures,
+      ← c.is_finite-3.ensures,
+      c.if-unbounded.false,
       c.if-largest-determinant.false,
       ← c.is_finite-4.ensures,
       c.if-is_finite-smallest.true,
@@ -77,21 +70,17 @@ returns-then-is_finite-smallest c =
 pub returns-then-not-is_finite-2 : goal.returns-then-not-is_finite-2
 unfolding inverse_of inverse_entries
 returns-then-not-is_finite-2 c =
-    let c1 = c in
-    let c2 = c1 in
-    let c3 = c2 in
-    let c4 = c3 in
     simp (
-      ← c4.is_finite.ensures,
-      c3.if-not-is_finite.false-raw,
-      ← c3.largest_eigenvalue-largest.ensures,
-      ← c3.determinant-determinant.ensures,
-      ← c2.is_finite-2.ensures,
-      ← c2.is_finite-3.ensures,
-      c2.if-is_finite.false,
-      c1.if-largest-determinant.false,
-      ← c1.is_finite-4.ensures,
-      c1.if-is_finite-smallest.false,
+      ← c.is_finite.ensures,
+      c.if-not-is_finite.false-raw,
+      ← c.largest_eigenvalue-largest.ensures,
+      ← c.determinant-determinant.ensures,
+      ← c.is_finite-2.ensures,
+      ← c.is_finite-3.ensures,
+      c.if-unbounded.false,
+      c.if-largest-determinant.false,
+      ← c.is_finite-4.ensures,
+      c.if-is_finite-smallest.false,
       ← c.is_finite-5.ensures,
       c.if-not-is_finite-2.true-raw,
     )
@@ -108,7 +97,7 @@ returns c =
     c.is_finite-4.ensures
     c.is_finite-5.ensures
     c.if-not-is_finite.false-raw
-    c.if-is_finite.false
+    c.if-unbounded.false
     c.if-largest-determinant.false
     c.if-is_finite-smallest.false
     c.if-not-is_finite-2.false-raw
