@@ -2,7 +2,7 @@
 """Brings the repository's own definitions and lemmas to snake case, as PORTING.md asks, after port.py.
 
 usage: python3 tools/respell.py table    writes tools/respell.tsv, old and new name, from what the .antt files define
-       python3 tools/respell.py turn     rewrites crates/ and the edits beside them by that table
+       python3 tools/respell.py turn     rewrites crates/ and the edits beside them by that table: once, since a second run would turn names that the first made
        python3 tools/respell.py text F.. rewrites the names in the text files F, where they stand in backticks
 
 Names of functions of src/, strings and the names that the check makes (a goal's) stay as they are.
