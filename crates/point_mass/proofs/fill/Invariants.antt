@@ -14,8 +14,8 @@ invariant-loop-i l =
     × (l.i ≤ l.n)
     × (length l.drops ≡ length l.initial.drops)
     × (length l.missing ≡ length l.initial.missing)
-    × (l.drops ≡ laid_over (map drop_or0 (entries_at l.p l.unit (take l.i l.distances))) l.initial.drops)
-    × (l.missing ≡ laid_over (map is_missing (entries_at l.p l.unit (take l.i l.distances))) l.initial.missing)
+    × (l.drops ≡ laid_over (map drop_or0 (entries_at l.fn.p l.fn.unit (take l.i l.distances))) l.initial.drops)
+    × (l.missing ≡ laid_over (map is_missing (entries_at l.fn.p l.fn.unit (take l.i l.distances))) l.initial.missing)
 
 abbrev pub decreases-loop-i : goal.decreases-loop-i
 decreases-loop-i l = l.n - l.i
