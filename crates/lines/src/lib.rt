@@ -491,7 +491,8 @@ fn session_form(k: usize, f: Fields, sound: bool) -> ReadForm
     if k == words::REFUSED {
         return refused(f);
     }
-    if k == words::PUT_IN {
+    let is_put_in = k == words::PUT_IN;
+    if is_put_in {
         return put_in(f);
     }
     if k == words::TAKE_OUT {

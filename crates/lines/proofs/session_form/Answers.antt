@@ -8,8 +8,8 @@ returns-then-k-eq-DROPS c = λ es. rw c.if-k-eq-DROPS.true (c.drops_form.ensures
 pub returns-then-k-eq-REFUSED : goal.returns-then-k-eq-REFUSED
 returns-then-k-eq-REFUSED c = λ es. rw c.if-k-eq-REFUSED.true (c.refused.ensures es)
 
-pub returns-then-k-eq-PUT_IN : goal.returns-then-k-eq-PUT_IN
-returns-then-k-eq-PUT_IN c = λ es. rw c.if-k-eq-PUT_IN.true (c.put_in.ensures es)
+pub returns-then-is_put_in : goal.returns-then-is_put_in
+returns-then-is_put_in c = λ es. rw c.if-is_put_in.true (c.put_in.ensures es)
 
 pub returns-then-k-eq-TAKE_OUT : goal.returns-then-k-eq-TAKE_OUT
 returns-then-k-eq-TAKE_OUT c = λ es. rw c.if-k-eq-TAKE_OUT.true (c.take_out.ensures es)
@@ -28,7 +28,7 @@ returns c =
     λ es. rw (
       ne_eqb _ _ c.if-k-eq-DROPS.false,
       ne_eqb _ _ c.if-k-eq-REFUSED.false,
-      ne_eqb _ _ c.if-k-eq-PUT_IN.false,
+      ne_eqb _ _ c.if-is_put_in.false,
       ne_eqb _ _ c.if-k-eq-TAKE_OUT.false,
       ne_eqb _ _ c.if-k-eq-EXCHANGE.false,
       ne_eqb _ _ c.if-k-eq-ASKED.false,
