@@ -1,5 +1,6 @@
 -- One rounded division of the doubles N and D, both below 2^53, is the double nearest to N / D: the theorem `one_division`. Assumes nothing.
-use Rattle.std.proofs.Common.{◌≡◌, ℕ, ◌*◌, ◌^◌, ◌<◌, Bool, true, false, cond, eqb, ℤ, sym, refl, ap, ◌∙◌, subst, lt_of_lt_of_le, lt_irrefl, mul_assoc, mul_comm, mul-lt-mul_of_pos_right, mul-pos, mul-one, mul_left_comm, arith, lit<, lit≤, pow_pos, eqb-true}
+use Rattle.std.proofs.Common.{◌≡◌, ℕ, ◌*◌, ◌^◌, ◌<◌, Bool, true, false, cond, eqb, ℤ, sym, refl, ap, ◌∙◌, subst, lt_of_lt_of_le, lt_irrefl, mul_assoc}
+use Rattle.std.proofs.Common.{mul_comm, mul-lt-mul_of_pos_right, mul-pos, mul-one, mul_left_comm, arith, lit<, lit≤, pow_pos, eqb-true}
 use borrow.Author.Tests.{eqb-false}
 use lib.Ieee.{Float, nan, inf, fin, binary64, low, up, down, round, div, of_int}
 use lib.Ieee.Exact.{HasValue, round_exact}

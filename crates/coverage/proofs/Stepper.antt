@@ -1,5 +1,7 @@
 -- What the reader makes of the bytes to come, by where it stands: `resume`. One byte more does not change it. Assumes nothing.
-use Rattle.std.proofs.Common.{◌≡◌, ℕ, zero, suc, ◌+◌, ◌*◌, ◌<◌, ◌≤◌, Bool, true, false, cond, not, ◌&&◌, eqb, ltb, leb, List, [], ◌∷◌, ◌++◌, length, get_or, take, drop, set, sym, refl, ap, ◌∙◌, subst, add-one, arith, lit<, lit≤, length-set, take_all, get_or-set_other, take-suc, get_or-set_same, le-ltb, lt-ltb, eq-eqb, ne_eqb, eqb-true, leb-false, leb-true}
+use Rattle.std.proofs.Common.{◌≡◌, ℕ, zero, suc, ◌+◌, ◌*◌, ◌<◌, ◌≤◌, Bool, true, false, cond, not, ◌&&◌, eqb, ltb, leb, List, [], ◌∷◌, ◌++◌, length}
+use Rattle.std.proofs.Common.{get_or, take, drop, set, sym, refl, ap, ◌∙◌, subst, add-one, arith, lit<, lit≤, length-set, take_all, get_or-set_other}
+use Rattle.std.proofs.Common.{take-suc, get_or-set_same, le-ltb, lt-ltb, eq-eqb, ne_eqb, eqb-true, leb-false, leb-true}
 use mathlib.Core.Option.{Option, none, some}
 use borrow.Author.Tests.{eqb-false, lt-leb}
 use lib.Ieee.{Float, nan}

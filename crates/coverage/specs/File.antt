@@ -1,4 +1,4 @@
--- L2's coverage file: its bytes, and the table or the refusal that they get, `load_of`.
+-- A laboratory's coverage file: its bytes, and the table or the refusal that they get, `load_of`.
 use Rattle.std.specs.Prelude.{ℕ, zero, suc, ◌+◌, ◌-◌, ◌*◌, ◌^◌, Bool, true, false, cond, ◌&&◌, List, [], ◌∷◌, ◌++◌, length, ◌==◌, nat_le, nat_lt, Float}
 use Prim.Native.Char.{code}
 use Prim.Native.String.{String}
