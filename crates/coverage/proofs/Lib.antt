@@ -1,6 +1,6 @@
 pub mod Division
 pub mod TableRows
-pub mod Judging
 pub mod Numbers
-pub mod Stepper
+pub mod Fitting
+pub mod Reader
 pub mod Figures

@@ -1,13 +1,13 @@
 -- What holds of loading. The theorems stand in proofs/ under the names that stand here.
-use Rattle.std.specs.Prelude.{◌≡◌, ℕ, ◌^◌, ◌<◌, ◌≤◌, false, List, ◌++◌, length, pos}
+use Rattle.std.specs.Prelude.{◌≡◌, ℕ, ◌^◌, ◌<◌, ◌≤◌, false, List, ◌++◌, length, pos, Ok, Result}
 use Rattle.std.specs.Float.{binary64}
 use Rattle.std.specs.Float.Ieee.{div, of_int, round}
 use Rattle.coverage.specs.declared.CoverageRow.{CoverageRow}
-use Rattle.coverage.specs.declared.Loader.{Loader}
-use Rattle.coverage.specs.declared.Loaded.{Loaded}
-use Rattle.coverage.specs.File.{table, rows_or, judged, load_of}
-use Rattle.coverage.specs.Table.{rows_in}
-use Rattle.coverage.specs.Reading.{fed_all, begun_of, form_in, says, Ends}
+use Rattle.coverage.specs.declared.Table.{Table}
+use Rattle.coverage.specs.declared.TableRefusal.{TableRefusal}
+use Rattle.coverage.specs.File.{rows_or, judged, load_of}
+use Rattle.coverage.specs.Table.{rows_in, says}
+use Rattle.coverage.specs.Reading.{Standing, fed_all, begun_of, form_in}
 
 -- Theorem `loads`: after any bytes, what the reader's state is judged to be is what a file of these bytes gets.
 abbrev pub Loads : Type 0
@@ -15,16 +15,16 @@ Loads = (s : List ℕ) → judged (form_in (fed_all begun_of s)) ≡ load_of s
 
 -- Theorem `fed_more`: a file read in pieces is the whole file.
 abbrev pub FedMore : Type 0
-FedMore = (l : Loader) (a b : List ℕ) → fed_all (fed_all l a) b ≡ fed_all l (a ++ b)
+FedMore = (l : Standing) (a b : List ℕ) → fed_all (fed_all l a) b ≡ fed_all l (a ++ b)
 
--- Theorem `loads_file`: what `ended` gives after a file's bytes is what the file gets, with its table or the built-in one.
+-- Theorem `loads_file`: what `ended` gives after a file's bytes is what the file gets, and what `in_force` makes of that is its table or the built-in one.
 abbrev pub LoadsFile : Type 0
-LoadsFile = (s : List ℕ) (r : Loaded) → Ends (fed_all begun_of s) r
-    → (says r.outcome (rows_in r.table) ≡ load_of s) × (rows_in r.table ≡ rows_or (load_of s))
+LoadsFile = (s : List ℕ) (r : Result Table TableRefusal) (t : Table) → says r ≡ judged (form_in (fed_all begun_of s)) → rows_in t ≡ rows_or (says r)
+    → (says r ≡ load_of s) × (rows_in t ≡ rows_or (load_of s))
 
 -- Theorem `accepted_rows`: an accepted table has 1 to 8 rows.
 abbrev pub AcceptedRows : Type 0
-AcceptedRows = (s : List ℕ) (rs : List CoverageRow) → load_of s ≡ table rs → (1 ≤ length rs) × (length rs ≤ 8)
+AcceptedRows = (s : List ℕ) (rs : List CoverageRow) → load_of s ≡ Ok rs → (1 ≤ length rs) × (length rs ≤ 8)
 
 -- Theorem `one_division`: of two whole numbers below 2^53, one rounded division is the double nearest to their quotient.
 abbrev pub OneDivision : Type 0

@@ -1,178 +1,147 @@
 -- The state of the reader of a coverage file, byte by byte, and the answers that it gives: one definition for each function of the code. Nobody has to believe
 -- it: the theorem `loads` (Loading.antt) ties it to the definition in File.antt.
-use Rattle.std.specs.Prelude.{◌≡◌, ℕ, zero, suc, ◌+◌, ◌*◌, true, false, cond, not, List, [], ◌∷◌, replicate, pos, ◌==◌, nat_le, nat_lt, slice_index, slice_set, Float}
+use Rattle.std.specs.Prelude.{◌≡◌, ℕ, ◌+◌, ◌-◌, ◌*◌, ◌^◌, ◌<◌, ◌≤◌, cond, ◌&&◌, List, [], ◌∷◌, ◌++◌, length, fold, pos, ◌==◌, nat_lt, slice_get, Float}
+use Rattle.std.specs.Prelude.{Option, None, Some, unwrap_or, option_map, option_and_then, Ok, Err, codes}
+use Rattle.std.specs.Char.{is_ascii_digit}
 use Rattle.std.specs.Float.{binary64}
 use Rattle.std.specs.Float.Ieee.{div, of_int}
-use Rattle.numeric.specs.Numeric.{zero64}
 use Rattle.coverage.specs.declared.CoverageRow.{CoverageRow}
-use Rattle.coverage.specs.Rows.{built_in}
-use Rattle.coverage.specs.declared.Table.{Table}
-use Rattle.coverage.specs.declared.Loader.{Loader}
+use Rattle.coverage.specs.declared.Digits.{Digits}
+use Rattle.coverage.specs.declared.Digits.TheVariants.{Due, Whole, Point, Places}
+use Rattle.coverage.specs.declared.Field.{Field}
+use Rattle.coverage.specs.declared.Field.TheVariants.{Level, Factor}
 use Rattle.coverage.specs.declared.Spot.{Spot}
 use Rattle.coverage.specs.declared.Spot.TheVariants as spot
-use Rattle.coverage.specs.declared.Outcome.{Outcome}
-use Rattle.coverage.specs.declared.Outcome.TheVariants as outcome
-use Rattle.coverage.specs.declared.Loaded.{Loaded}
-use Rattle.coverage.specs.File.{is_digit, next, Form, formed, wrong, Answer, table, refused, rows_or, judged}
-use Rattle.coverage.specs.Table.{rows_in}
+use Rattle.coverage.specs.File.{row, Form}
 
--- ---- the reader's steps
+-- where a reader stands, and the rows that it has read
+pub record Standing : Type 0 where
+  pub spot : Spot
+  pub rows : List CoverageRow
 
--- the line and the beginning of a row that a file begins with, and the line feed between them
-abbrev pub opening : List ℕ
-opening = 40 ∷ 99 ∷ 111 ∷ 118 ∷ 101 ∷ 114 ∷ 97 ∷ 103 ∷ 101 ∷ 10 ∷ 40 ∷ 108 ∷ 101 ∷ 118 ∷ 101 ∷ 108 ∷ 32 ∷ []
+-- ---- a number
 
-unfoldable pub letter_of : ℕ → ℕ
-letter_of k = cond (nat_le 17 k) 0 (slice_index opening k)
+-- one digit more, where the number stays below 2^53
+unfoldable pub longer_of : ℕ → ℕ → Option ℕ
+longer_of n d = cond (nat_lt (n * 10 + d) (2 ^ 53)) (Some (n * 10 + d)) None
 
--- the number of the line after n rows
-unfoldable pub line_of : ℕ → ℕ
-line_of n = cond (nat_le 8 n) 10 (n + 2)
+abbrev pub digit_after : Digits → ℕ → Option Digits
+digit_after Due d = option_map Whole (longer_of 0 d)
+digit_after (Whole n) d = option_map Whole (longer_of n d)
+digit_after (Point n) d = option_map (λ m. Places m 10) (longer_of n d)
+digit_after (Places n k) d = cond (nat_lt (10 ^ 14) k) None (option_map (λ m. Places m (k * 10)) (longer_of n d))
 
-abbrev pub with_spot : Loader → Spot → Loader
-with_spot l s = record { spot = s; second = l.second; sum = l.sum; den = l.den; level = l.level; table = l.table }
+abbrev pub point_after : Digits → Option Digits
+point_after (Whole n) = Some (Point n)
+point_after _ = None
 
--- a line that is not of the form, with its number
-unfoldable pub failed_of : Loader → Loader
-failed_of l = with_spot l (spot.Wrong (line_of l.table.n))
-
-unfoldable pub text_of : Loader → ℕ → ℕ → Loader
-text_of l k c =
-    cond (not (letter_of k == c)) (cond (nat_lt k 10) (with_spot l (spot.Wrong 1)) (failed_of l))
-    (cond (nat_le 16 k)
-    (record { spot = spot.Due; second = false; sum = l.sum; den = l.den; level = l.level; table = l.table })
-    (with_spot l (spot.Text (k + 1))))
-
-unfoldable pub start_of : Loader → ℕ → Loader
-start_of l c = cond (c == 40) (with_spot l (spot.Text 11)) (cond (c == 41) (with_spot l spot.End) (failed_of l))
-
--- one digit more; from 2^53 on some number that is too large
-unfoldable pub more_of : ℕ → ℕ → ℕ
-more_of n c = cond (nat_le 900719925474100 n) 9007199254740992 (cond (nat_lt c 48) 9007199254740992 (next n c))
-
-unfoldable pub counted_of : Loader → Spot → ℕ → ℕ → Loader
-counted_of l s n d =
-    cond (nat_le 9007199254740992 n) (failed_of l)
-    (record { spot = s; second = l.second; sum = n; den = d; level = l.level; table = l.table })
+-- with the byte c, where a number may go on so
+unfoldable pub number_after : Digits → ℕ → Option Digits
+number_after s c = cond (is_ascii_digit c) (digit_after s (c - 48)) (cond (c == 46) (point_after s) None)
 
 unfoldable pub quotient_of : ℕ → ℕ → Float
 quotient_of n d = div binary64 (of_int binary64 (pos n)) (of_int binary64 (pos d))
 
--- a number ends: the level at a blank, the factor at a )
-unfoldable pub finish_of : Loader → ℕ → Loader
-finish_of l c =
-    cond l.second (cond (c == 41) (with_spot l spot.Closed) (failed_of l))
-    (cond (c == 32)
-    (record { spot = spot.Due; second = true; sum = l.sum; den = l.den; level = quotient_of l.sum l.den; table = l.table })
-    (failed_of l))
+-- its double, where a number may end
+unfoldable pub value_at : Digits → Option Float
+value_at Due = None
+value_at (Whole n) = Some (quotient_of n 1)
+value_at (Point n) = None
+value_at (Places n d) = Some (quotient_of n d)
 
-unfoldable pub due_of : Loader → ℕ → Loader
-due_of l c = cond (is_digit c) (counted_of l spot.Whole (more_of 0 c) 1) (failed_of l)
+-- ---- a row
 
-unfoldable pub whole_of : Loader → ℕ → Loader
-whole_of l c = cond (is_digit c) (counted_of l spot.Whole (more_of l.sum c) 1) (cond (c == 46) (with_spot l spot.Point) (finish_of l c))
+-- the byte behind a number: a blank behind the level, a ) behind the factor
+abbrev pub stop_of : Field → ℕ
+stop_of Level = 32
+stop_of (Factor x) = 41
 
-unfoldable pub point_of : Loader → ℕ → Loader
-point_of l c = cond (is_digit c) (counted_of l spot.Places (more_of l.sum c) 10) (failed_of l)
+abbrev pub behind_of : Field → Float → Spot
+behind_of Level x = spot.Number (Factor x) Due
+behind_of (Factor x) y = spot.Closed (row x y)
 
-unfoldable pub places_of : Loader → ℕ → Loader
-places_of l c =
-    cond (is_digit c) (cond (nat_le 100000000000001 l.den) (failed_of l) (counted_of l spot.Places (more_of l.sum c) (l.den * 10)))
-    (finish_of l c)
+unfoldable pub field_after : Field → Digits → ℕ → Option Spot
+field_after f s c =
+    cond (c == stop_of f) (option_map (behind_of f) (value_at s)) (option_map (λ t. spot.Number f t) (number_after s c))
 
-unfoldable pub added_of : Table → Float → Float → Table
-added_of t x y = cond (nat_le 8 t.n) t (record { levels = slice_set t.levels t.n x; factors = slice_set t.factors t.n y; n = t.n + 1 })
+-- ---- a line
 
--- a row ends
-abbrev pub start_after : Loader → Loader
-start_after l = record {
-  spot = spot.Start;
-  second = l.second;
-  sum = l.sum;
-  den = l.den;
-  level = l.level;
-  table = added_of l.table l.level (quotient_of l.sum l.den);
-}
+abbrev pub first_line : List ℕ
+first_line = codes "(coverage" ++ (10 ∷ [])
 
-unfoldable pub closed_of : Loader → ℕ → Loader
-closed_of l c =
-    cond (not (c == 10)) (failed_of l)
-    (cond (nat_le 8 l.table.n) (failed_of l) (start_after l))
+-- how a row begins
+abbrev pub row_opening : List ℕ
+row_opening = codes "(level "
 
-unfoldable pub end_of : Loader → ℕ → Loader
-end_of l c = cond (c == 10) (with_spot l spot.Done) (failed_of l)
+-- k bytes of a text are read, and then c
+unfoldable pub text_after : List ℕ → ℕ → ℕ → Option ℕ
+text_after t k c = option_and_then (λ d. cond (c == d) (Some (k + 1)) None) (slice_get t k)
 
--- a line too many
-unfoldable pub behind_of : Loader → Loader
-behind_of l = cond (nat_le 8 l.table.n) (with_spot l (spot.Wrong 11)) (with_spot l (spot.Wrong (l.table.n + 3)))
+-- where the reader stands with the byte c behind n rows, if the line may go on so
+abbrev pub next_at : Spot → ℕ → ℕ → Option Spot
+next_at (spot.Head k) n c = option_map (λ j. cond (nat_lt j (length first_line)) (spot.Head j) (spot.Opening 0)) (text_after first_line k c)
+next_at (spot.Opening k) n c =
+    option_map (λ j. cond (nat_lt j (length row_opening)) (spot.Opening j) (spot.Number Level Due)) (text_after row_opening k c)
+next_at (spot.Number f s) n c = field_after f s c
+next_at (spot.Closed x) n c = cond (c == 10 && nat_lt n 8) (Some spot.Start) None
+next_at spot.Start n c = cond (c == 40) (Some (spot.Opening 1)) (cond (c == 41) (Some spot.End) None)
+next_at spot.End n c = cond (c == 10) (Some spot.Done) None
+next_at spot.Done n c = None
+next_at (spot.Wrong k) n c = Some (spot.Wrong k)
 
--- one byte more, by where the reader stands
-abbrev pub step_at : Spot → Loader → ℕ → Loader
-step_at (spot.Text k) l c = text_of l k c
-step_at spot.Start l c = start_of l c
-step_at spot.Due l c = due_of l c
-step_at spot.Whole l c = whole_of l c
-step_at spot.Point l c = point_of l c
-step_at spot.Places l c = places_of l c
-step_at spot.Closed l c = closed_of l c
-step_at spot.End l c = end_of l c
-step_at spot.Done l c = behind_of l
-step_at (spot.Wrong k) l c = l
+-- the rows with the byte c: the line feed behind a row puts it among them
+abbrev pub rows_after : Spot → List CoverageRow → ℕ → List CoverageRow
+rows_after (spot.Closed x) rs c = cond (c == 10 && nat_lt (length rs) 8) (rs ++ (x ∷ [])) rs
+rows_after _ rs c = rs
 
-unfoldable pub fed_of : Loader → ℕ → Loader
-fed_of l c = step_at l.spot l c
+-- the number of the line that is being read behind n rows
+abbrev pub line_at : Spot → ℕ → ℕ
+line_at (spot.Head k) n = 1
+line_at spot.Done n = n + 3
+line_at _ n = n + 2
 
-abbrev pub fed_all : Loader → List ℕ → Loader
-fed_all l [] = l
-fed_all l (c ∷ s) = fed_all (fed_of l c) s
+-- ---- the reader
 
 -- before the first byte
-unfoldable pub begun_of : Loader
-begun_of = record {
-  spot = spot.Text 0;
-  second = false;
-  sum = 0;
-  den = 1;
-  level = zero64;
-  table = record { levels = replicate 8 zero64; factors = replicate 8 zero64; n = 0 };
-}
+unfoldable pub begun_of : Standing
+begun_of = record { spot = spot.Head 0; rows = [] }
 
--- ---- the end of the file
+-- one byte more; where the line may not go on so, its number stays
+unfoldable pub fed_of : Standing → ℕ → Standing
+fed_of l c =
+    record {
+      spot = unwrap_or (next_at l.spot (length l.rows) c) (spot.Wrong (line_at l.spot (length l.rows)));
+      rows = rows_after l.spot l.rows c;
+    }
 
--- the line at which an end shows, by where the reader stands; 0 where the file is of the form
-abbrev pub fault_at : Spot → ℕ → ℕ
-fault_at (spot.Text k) n = cond (nat_lt k 10) 1 (line_of n)
-fault_at spot.Start n = line_of n
-fault_at spot.Due n = line_of n
-fault_at spot.Whole n = line_of n
-fault_at spot.Point n = line_of n
-fault_at spot.Places n = line_of n
-fault_at spot.Closed n = line_of n
-fault_at spot.End n = line_of n
-fault_at spot.Done n = 0
-fault_at (spot.Wrong k) n = k
+abbrev pub fed_all : Standing → List ℕ → Standing
+fed_all l s = fold fed_of l s
 
-unfoldable pub fault_of : Loader → ℕ
-fault_of l = fault_at l.spot l.table.n
-
-abbrev pub form_by : ℕ → Table → Form
-form_by zero t = formed (rows_in t)
-form_by (suc k) t = wrong (suc k)
+abbrev pub form_at : Spot → List CoverageRow → Form
+form_at spot.Done rs = Ok rs
+form_at (spot.Wrong k) rs = Err k
+form_at s rs = Err (line_at s (length rs))
 
 -- the form of all that was read, were it the whole file
-unfoldable pub form_in : Loader → Form
-form_in l = form_by (fault_of l) l.table
+unfoldable pub form_in : Standing → Form
+form_in l = form_at l.spot l.rows
 
--- what an outcome and the rows beside it say
-abbrev pub says : Outcome → List CoverageRow → Answer
-says outcome.Accepted rs = table rs
-says (outcome.Refused m k) rs = refused m k
+-- ---- what holds of every reader
 
-pub record Refuses (m k : ℕ) (r : Loaded) : Type 0 where
-  pub outcome : r.outcome ≡ outcome.Refused m k
-  pub rows : rows_in r.table ≡ built_in
+-- a number below 2^53 with at most 15 digits after the point
+abbrev pub IsSmall : Digits → Type 0
+IsSmall (Whole n) = n < 2 ^ 53
+IsSmall (Places n d) = (n < 2 ^ 53) × (0 < d) × (d ≤ 10 ^ 15)
+IsSmall _ = Unit {0}
 
--- the answer to what was read, were it the whole file; where it is refused the table is the built-in one
-pub record Ends (l : Loader) (r : Loaded) : Type 0 where
-  pub answer : says r.outcome (rows_in r.table) ≡ judged (form_in l)
-  pub rows : rows_in r.table ≡ rows_or (judged (form_in l))
+-- no row before the first line has ended, and a row where the table may end
+abbrev pub FitsAt : Spot → List CoverageRow → Type 0
+FitsAt (spot.Head k) rs = (k < length first_line) × (rs ≡ [])
+FitsAt (spot.Opening k) rs = k < length row_opening
+FitsAt (spot.Number f s) rs = IsSmall s
+FitsAt (spot.Closed x) rs = Unit {0}
+FitsAt (spot.Wrong k) rs = Unit {0}
+FitsAt _ rs = 0 < length rs
+
+abbrev pub Fits : Standing → Type 0
+Fits l = FitsAt l.spot l.rows × (length l.rows ≤ 8)

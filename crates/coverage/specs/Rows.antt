@@ -1,5 +1,5 @@
 -- The rows of a laboratory's coverage table, and an interval at a row.
-use Rattle.std.specs.Prelude.{List, [], ◌∷◌}
+use Rattle.std.specs.Prelude.{◌-◌, List, [], ◌∷◌, length, slice_index_or}
 use Rattle.std.specs.Float.{binary64}
 use Rattle.std.specs.Float.Ieee.{add, sub, mul}
 use Rattle.interval.specs.Interval.{level95, factor95}
@@ -18,12 +18,8 @@ abbrev pub built_in : Table
 built_in = built_in_row ∷ []
 
 -- the last row; no table is empty, and of no rows it is the built-in one
-abbrev pub last_from : CoverageRow → Table → CoverageRow
-last_from r [] = r
-last_from r (x ∷ t) = last_from x t
-
 abbrev pub last_row : Table → CoverageRow
-last_row t = last_from built_in_row t
+last_row t = slice_index_or t (length t - 1) built_in_row
 
 -- an interval at a row: its estimate and its standard deviation, the half width by the row's factor, and the row's level
 unfoldable pub at_row : GaussianIntervalV1 → CoverageRow → GaussianIntervalV1

@@ -1,21 +1,17 @@
--- The rows that a value of the code's table stands for: 1 to 8 of them, whatever its count.
-use Rattle.std.specs.Prelude.{ℕ, zero, suc, ◌≤◌, cond, List, [], ◌∷◌, length, nat_lt, slice_index_or, Float}
-use Rattle.std.specs.Float.{nan}
+-- The rows of a value of the code's table: 1 to 8 of them.
+use Rattle.std.specs.Prelude.{◌≤◌, List, length, Result}
+use Rattle.std.specs.Result.{result_map_both}
 use Rattle.coverage.specs.declared.CoverageRow.{CoverageRow}
 use Rattle.coverage.specs.declared.Table.{Table}
-use Rattle.coverage.specs.File.{row}
-
--- below 1 counts as 1, above 8 as 8
-unfoldable pub count_of : ℕ → ℕ
-count_of n = cond (nat_lt n 1) 1 (cond (nat_lt 8 n) 8 n)
-
--- k rows from place i on
-abbrev pub rows_at : List Float → List Float → ℕ → ℕ → List CoverageRow
-rows_at xs ys i zero = []
-rows_at xs ys i (suc k) = row (slice_index_or xs i nan) (slice_index_or ys i nan) ∷ rows_at xs ys (suc i) k
+use Rattle.coverage.specs.declared.TableRefusal.{TableRefusal}
+use Rattle.coverage.specs.File.{Answer}
 
 abbrev pub rows_in : Table → List CoverageRow
-rows_in t = rows_at t.levels t.factors 0 (count_of t.n)
+rows_in t = t.rows.items
+
+-- what loading a file has given, its table as the list of its rows
+abbrev pub says : Result Table TableRefusal → Answer
+says r = result_map_both rows_in (λ e. e) r
 
 -- Theorem `rows_most`.
 abbrev pub RowsMost : Type 0

@@ -1,44 +1,87 @@
 // A laboratory's own coverage table, and the reader of its file: a value that takes the file's bytes in pieces, in bounded memory.
 #![tactic(auto)]
 
-ghost use Rattle.std.specs.Prelude.{◌≡◌, length, if◌then◌else◌, nat_lt, slice_index_or};
+ghost use Rattle.std.specs.Prelude.{◌≡◌, ◌≤◌, length, slice_index_or, MatchResult, OnOk};
 ghost use Rattle.coverage.specs.Rows.{built_in_row, built_in, last_row, at_row};
-ghost use Rattle.coverage.specs.File.{is_digit, row, in_range, rises, outside_from, flat_from};
-ghost use Rattle.coverage.specs.Table.{count_of, rows_in};
-ghost use Rattle.coverage.specs.Reading.{letter_of, line_of, failed_of, text_of, start_of, more_of, counted_of, quotient_of, finish_of, due_of, whole_of, point_of};
-ghost use Rattle.coverage.specs.Reading.{places_of, added_of, closed_of, end_of, behind_of, fed_of, fed_all, begun_of, fault_of, Refuses, Ends};
+ghost use Rattle.coverage.specs.File.{told_of, refusal, in_range, rises, outside_of, flat_of, ranged, rows_or, judged};
+ghost use Rattle.coverage.specs.Reading.{longer_of, digit_after, point_after, number_after, quotient_of, value_at, stop_of, behind_of, field_after, text_after};
+ghost use Rattle.coverage.specs.Reading.{next_at, rows_after, line_at, begun_of, fed_of, fed_all, form_in};
 
+use arrayvec::ArrayVec;
 use interval::GaussianIntervalV1;
+use std::marker::Model;
 
-// A row of a coverage table: the level of an interval, and the factor of its standard deviation.
-#[derive(Clone, Copy)]
+// Whole numbers below 2^53 are doubles.
+const WHOLE_END: u64 = 1 << 53;
+
+// 10 to the number of the digits behind a point, where one more is the fifteenth.
+const FOURTEEN_PLACES: u64 = 100_000_000_000_000;
+
+const FIRST_LINE: &[u8] = b"(coverage\n";
+
+// How a row begins.
+const ROW_OPENING: &[u8] = b"(level ";
+
+// A row of a coverage table: the level of an interval, and the factor of its standard deviation. The default lies in the places that hold no row.
+#[derive(Clone, Copy, Default)]
 pub struct CoverageRow {
     pub level: f64,
     pub factor: f64,
 }
 
-// The rows are the first n places of both arrays. Of a value that nothing made, n below 1 counts as 1 and above 8 as 8.
-#[derive(Clone, Copy)]
+// 1 to 8 rows.
+#[derive(Drop)]
 pub struct Table {
-    levels: [f64; 8],
-    factors: [f64; 8],
-    n: usize,
+    rows: ArrayVec<CoverageRow, 8>,
+    ghost least: { 1 ≤ length rows.items },
+    ghost most: { length rows.items ≤ 8 },
 }
 
-// Where the reader stands. Public because a caller may hold a reader in a value of its own; nothing public gives one.
+// Why a file is refused, with the number that is told.
+#[derive(Clone, Copy, Debug, PartialEq, Eq)]
+pub enum TableRefusalCode {
+    // a line is not of the form
+    Line = 16,
+    // a row is outside its range
+    Range = 17,
+    // a row does not rise above the one before it
+    Order = 18,
+}
+
+// The place is the number of the line, or of the row.
+#[derive(Clone, Copy, Debug, PartialEq, Eq)]
+pub struct TableRefusal {
+    pub code: TableRefusalCode,
+    pub place: usize,
+}
+
+// The number of a row that is being read: its level, or its factor behind that level.
 #[derive(Clone, Copy)]
-pub enum Spot {
-    // so many bytes of the first line and of the beginning of a row are read
-    Text(usize),
+enum Field {
+    Level,
+    Factor(f64),
+}
+
+// What is read of a number: nothing, its digits in front of the point, these and the point, or the digits on both sides, as a numerator and a denominator.
+#[derive(Clone, Copy)]
+enum Digits {
+    Due,
+    Whole(u64),
+    Point(u64),
+    Places(u64, u64),
+}
+
+// Where the reader stands.
+#[derive(Clone, Copy)]
+enum Spot {
+    // so many bytes of the first line are read, or of the beginning of a row
+    Head(usize),
+    Opening(usize),
+    Number(Field, Digits),
+    // behind the ) of a row
+    Closed(CoverageRow),
     // at the beginning of a line behind a row
     Start,
-    // before a number, in its digits, behind its point, in the digits behind that
-    Due,
-    Whole,
-    Point,
-    Places,
-    // behind the ) of a row
-    Closed,
     // behind the ) of the table, and behind its line feed
     End,
     Done,
@@ -46,520 +89,365 @@ pub enum Spot {
     Wrong(usize),
 }
 
-// The number that is being read is sum / den. The level is that of the row that is being read. While it reads, the table has 0 to 8 rows.
-#[derive(Clone, Copy)]
+// The rows are those whose lines are read.
+#[derive(Drop)]
 pub struct Loader {
     spot: Spot,
-    second: bool,
-    sum: u64,
-    den: u64,
-    level: f64,
-    table: Table,
+    rows: ArrayVec<CoverageRow, 8>,
 }
 
-#[derive(Clone, Copy)]
-pub enum Outcome {
-    Accepted,
-    // 16, 17 or 18, and the line or the row
-    Refused(u64, usize),
+impl Model for Loader {
+    ghost use Rattle.coverage.specs.Reading.{Standing, Fits};
+
+    ghost Value = { Standing };
+
+    ghost view = { λ l. record { spot = l.spot; rows = l.rows.items } };
+
+    ghost invariant = { λ l. Fits (record { spot = l.spot; rows = l.rows.items }) };
 }
 
-// Where the file is refused, the table is the built-in one.
-#[derive(Clone, Copy)]
-pub struct Loaded {
-    pub outcome: Outcome,
-    pub table: Table,
+// ---- refusals
+
+impl From<TableRefusalCode> for u64 {
+    ghost from_gives = { λ code n. n ≡ told_of code };
+
+    fn from(code: TableRefusalCode) -> u64 {
+        code as u64
+    }
+}
+
+impl TableRefusalCode {
+    fn at(self, place: usize) -> TableRefusal
+        ensures { result ≡ refusal self place }
+    {
+        TableRefusal { code: self, place }
+    }
 }
 
 // ---- a table
 
-// Without a file: the old single row.
-pub fn single() -> Table
-    ensures { rows_in result ≡ built_in }
-{
-    let mut levels = [0.0; 8];
-    let mut factors = [0.0; 8];
-    levels[0] = GaussianIntervalV1::LEVEL;
-    factors[0] = GaussianIntervalV1::FACTOR;
-    Table {
-        levels: levels,
-        factors: factors,
-        n: 1,
-    }
-}
-
-fn count(n: usize) -> usize
-    ensures { result ≡ count_of n }
-{
-    if n < 1 {
-        return 1;
-    }
-    if n > 8 {
-        return 8;
-    }
-    n
-}
-
-// How many rows a table has.
-pub fn rows(t: Table) -> usize
-    ensures { result ≡ length (rows_in t) }
-{
-    count(t.n)
-}
-
-// A row, counted from 0; behind the last the built-in one.
-pub fn row(t: Table, k: usize) -> CoverageRow
-    ensures { result ≡ slice_index_or (rows_in t) k built_in_row }
-{
-    let n = count(t.n);
-    if k >= n {
-        return CoverageRow {
-            level: GaussianIntervalV1::LEVEL,
-            factor: GaussianIntervalV1::FACTOR,
-        };
-    }
-    let xs = t.levels;
-    let ys = t.factors;
-    CoverageRow {
-        level: xs[k],
-        factor: ys[k],
-    }
-}
-
-pub fn last(t: Table) -> CoverageRow
-    ensures { result ≡ last_row (rows_in t) }
-{
-    let n = rows(t);
-    row(t, n - 1)
-}
-
-// An interval at a row.
-pub fn interval_row(t: Table, k: usize, g: GaussianIntervalV1) -> GaussianIntervalV1
-    ensures { result ≡ at_row g (slice_index_or (rows_in t) k built_in_row) }
-{
-    let r = row(t, k);
-    let half_width = r.factor * g.standard_deviation;
-    GaussianIntervalV1 {
-        estimate: g.estimate,
-        standard_deviation: g.standard_deviation,
-        lower: g.estimate - half_width,
-        upper: g.estimate + half_width,
-        probability: r.level,
-    }
-}
-
-// ---- the reader of a file
-
-// Nothing is read yet.
-pub fn begin() -> Loader
-    ensures { result ≡ begun_of }
-{
-    let levels = [0.0; 8];
-    let factors = [0.0; 8];
-    let table = Table {
-        levels: levels,
-        factors: factors,
-        n: 0,
+impl CoverageRow {
+    // Without a file: the old single row.
+    const BUILT_IN: CoverageRow = CoverageRow {
+        level: GaussianIntervalV1::LEVEL,
+        factor: GaussianIntervalV1::FACTOR,
     };
-    Loader {
-        spot: Spot::Text(0),
-        second: false,
-        sum: 0,
-        den: 1,
-        level: 0.0,
-        table: table,
+
+    #[tactic(auto, unfolding(crate::specs::File::in_range))]
+    fn in_range(&self) -> bool
+        ensures { result ≡ in_range self.now }
+    {
+        0.0 < self.level && self.level < 1.0 && 0.0 < self.factor
+    }
+
+    #[tactic(auto, unfolding(crate::specs::File::rises))]
+    fn rises(&self, next: &CoverageRow) -> bool
+        ensures { result ≡ rises self.now next.now }
+    {
+        self.level < next.level && self.factor < next.factor
     }
 }
 
-fn letter(k: usize) -> u8
-    ensures { result ≡ letter_of k }
-{
-    if k >= 17 {
-        return 0;
-    }
-    let text = [
-        40u8, 99, 111, 118, 101, 114, 97, 103, 101, 10, 40, 108, 101, 118, 101, 108, 32,
-    ];
-    text[k]
-}
+impl Table {
+    ghost use Rattle.coverage.specs.Table.{rows_in, says};
 
-fn line(n: usize) -> usize
-    ensures { result ≡ line_of n }
-{
-    if n >= 8 {
-        return 10;
+    // Without a file: the built-in row alone.
+    pub fn single() -> Table
+        ensures { rows_in result ≡ built_in }
+    {
+        let mut rows = ArrayVec::new();
+        rows.push(CoverageRow::BUILT_IN);
+        Table { rows }
     }
-    n + 2
-}
 
-fn failed(l: Loader) -> Loader
-    ensures { result ≡ failed_of l }
-{
-    let k = line(l.table.n);
-    Loader {
-        spot: Spot::Wrong(k),
-        ..l
-    }
-}
-
-fn text(l: Loader, k: usize, c: u8) -> Loader
-    ensures { result ≡ text_of l k c }
-{
-    if !(letter(k) == c) {
-        if k < 10 {
-            return Loader {
-                spot: Spot::Wrong(1),
-                ..l
-            };
+    // What there is once a file is loaded: its table, or the built-in one.
+    pub fn in_force(loaded: Result<Table, TableRefusal>) -> Table
+        ensures { rows_in result ≡ rows_or (says loaded) }
+    {
+        match loaded {
+            Ok(table) => table,
+            Err(_) => Table::single(),
         }
-        return failed(l);
     }
-    if k >= 16 {
-        return Loader {
-            spot: Spot::Due,
-            second: false,
-            ..l
-        };
+
+    pub fn rows(&self) -> &[CoverageRow]
+        ensures { result.now ≡ rows_in self.now }
+    {
+        self.rows.as_slice()
     }
-    Loader {
-        spot: Spot::Text(k + 1),
-        ..l
+
+    // A row, counted from 0; behind the last the built-in one.
+    pub fn row(&self, k: usize) -> CoverageRow
+        ensures { result ≡ slice_index_or (rows_in self.now) k built_in_row }
+    {
+        self.rows().get(k).copied().unwrap_or(CoverageRow::BUILT_IN)
+    }
+
+    pub fn last(&self) -> CoverageRow
+        ensures { result ≡ last_row (rows_in self.now) }
+    {
+        let n = self.rows().len();
+        self.row(n - 1)
+    }
+
+    // An interval at a row.
+    #[tactic(auto, unfolding(crate::specs::Rows::at_row))]
+    pub fn interval_row(&self, k: usize, g: GaussianIntervalV1) -> GaussianIntervalV1
+        ensures { result ≡ at_row g (slice_index_or (rows_in self.now) k built_in_row) }
+    {
+        let r = self.row(k);
+        let half_width = r.factor * g.standard_deviation;
+        GaussianIntervalV1 {
+            lower: g.estimate - half_width,
+            upper: g.estimate + half_width,
+            probability: r.level,
+            ..g
+        }
+    }
+
+    // The place of the first row outside its range.
+    fn outside(&self) -> Option<usize>
+        ensures { result ≡ outside_of (rows_in self.now) }
+    {
+        self.rows().iter().position(|r| !r.in_range())
+    }
+
+    // The place of the first row above which the next one does not rise.
+    fn flat(&self) -> Option<usize>
+        ensures { result ≡ flat_of (rows_in self.now) }
+    {
+        let rows = self.rows();
+        rows.iter()
+            .zip(rows.iter().skip(1))
+            .position(|(r, next)| !r.rises(next))
+    }
+
+    // The table, or the first refusal of its rows.
+    fn judged(self) -> Result<Table, TableRefusal>
+        ensures { says result ≡ ranged (rows_in self) (outside_of (rows_in self)) }
+    {
+        if let Some(i) = self.outside() {
+            return Err(TableRefusalCode::Range.at(i + 1));
+        }
+        if let Some(i) = self.flat() {
+            return Err(TableRefusalCode::Order.at(i + 2));
+        }
+        Ok(self)
     }
 }
 
-fn start(l: Loader, c: u8) -> Loader
-    ensures { result ≡ start_of l c }
-{
-    if c == 40 {
-        return Loader {
-            spot: Spot::Text(11),
-            ..l
-        };
-    }
-    if c == 41 {
-        return Loader {
-            spot: Spot::End,
-            ..l
-        };
-    }
-    failed(l)
-}
+// ---- a number
 
-fn is_digit(c: u8) -> bool
-    ensures { result ≡ is_digit c }
-{
-    (48 <= c) & (c <= 57)
-}
-
-fn wide(c: u8) -> u64
-    ensures { result ≡ c }
-{
-    c as u64
-}
-
-fn more(n: u64, c: u8) -> u64
-    ensures { result ≡ more_of n c }
-{
-    if n >= 900719925474100 {
-        return 9007199254740992;
-    }
-    if c < 48 {
-        return 9007199254740992;
-    }
-    n * 10 + (wide(c) - 48)
-}
-
-fn counted(l: Loader, s: Spot, n: u64, d: u64) -> Loader
-    ensures { result ≡ counted_of l s n d }
-{
-    if n >= 9007199254740992 {
-        return failed(l);
-    }
-    Loader {
-        spot: s,
-        sum: n,
-        den: d,
-        ..l
-    }
-}
-
-// One rounded division of two whole numbers below 2^53 is the nearest double.
+// One division of two whole numbers below 2^53 is the nearest double.
+#[tactic(auto, unfolding(crate::specs::Reading::quotient_of))]
 fn quotient(n: u64, d: u64) -> f64
     ensures { result ≡ quotient_of n d }
 {
     std::num::nearest_u64_to_f64(n) / std::num::nearest_u64_to_f64(d)
 }
 
-fn finish(l: Loader, c: u8) -> Loader
-    ensures { result ≡ finish_of l c }
+// A number with one digit more.
+#[tactic(auto, unfolding(crate::specs::Reading::longer_of))]
+fn longer(n: u64, digit: u8) -> Option<u64>
+    ensures { result ≡ longer_of n digit }
 {
-    if l.second {
-        if c == 41 {
-            return Loader {
-                spot: Spot::Closed,
-                ..l
-            };
+    let sum = n.checked_mul(10)?.checked_add(u64::from(digit))?;
+    if sum < WHOLE_END { Some(sum) } else { None }
+}
+
+impl Digits {
+    fn digit(self, digit: u8) -> Option<Digits>
+        ensures { result ≡ digit_after self digit }
+    {
+        match self {
+            Digits::Due => longer(0, digit).map(Digits::Whole),
+            Digits::Whole(n) => longer(n, digit).map(Digits::Whole),
+            Digits::Point(n) => longer(n, digit).map(|m| Digits::Places(m, 10)),
+            Digits::Places(_, d) if d > FOURTEEN_PLACES => None,
+            Digits::Places(n, d) => longer(n, digit).map(|m| Digits::Places(m, d * 10)),
         }
-        return failed(l);
     }
-    if c == 32 {
-        let x = quotient(l.sum, l.den);
-        return Loader {
-            spot: Spot::Due,
-            second: true,
-            level: x,
-            ..l
-        };
-    }
-    failed(l)
-}
 
-fn due(l: Loader, c: u8) -> Loader
-    ensures { result ≡ due_of l c }
-{
-    if is_digit(c) {
-        return counted(l, Spot::Whole, more(0, c), 1);
-    }
-    failed(l)
-}
-
-fn whole(l: Loader, c: u8) -> Loader
-    ensures { result ≡ whole_of l c }
-{
-    if is_digit(c) {
-        return counted(l, Spot::Whole, more(l.sum, c), 1);
-    }
-    if c == 46 {
-        return Loader {
-            spot: Spot::Point,
-            ..l
-        };
-    }
-    finish(l, c)
-}
-
-fn point(l: Loader, c: u8) -> Loader
-    ensures { result ≡ point_of l c }
-{
-    if is_digit(c) {
-        return counted(l, Spot::Places, more(l.sum, c), 10);
-    }
-    failed(l)
-}
-
-fn places(l: Loader, c: u8) -> Loader
-    ensures { result ≡ places_of l c }
-{
-    if is_digit(c) {
-        if l.den >= 100000000000001 {
-            return failed(l);
+    fn point(self) -> Option<Digits>
+        ensures { result ≡ point_after self }
+    {
+        match self {
+            Digits::Whole(n) => Some(Digits::Point(n)),
+            _ => None,
         }
-        return counted(l, Spot::Places, more(l.sum, c), l.den * 10);
     }
-    finish(l, c)
-}
 
-fn added(t: Table, x: f64, y: f64) -> Table
-    ensures { result ≡ added_of t x y }
-{
-    let n = t.n;
-    if n >= 8 {
-        return t;
-    }
-    let mut levels = t.levels;
-    let mut factors = t.factors;
-    levels[n] = x;
-    factors[n] = y;
-    Table {
-        levels: levels,
-        factors: factors,
-        n: n + 1,
-    }
-}
-
-fn closed(l: Loader, c: u8) -> Loader
-    ensures { result ≡ closed_of l c }
-{
-    if !(c == 10) {
-        return failed(l);
-    }
-    if l.table.n >= 8 {
-        return failed(l);
-    }
-    let y = quotient(l.sum, l.den);
-    let t = l.table;
-    let table = added(t, l.level, y);
-    Loader {
-        spot: Spot::Start,
-        table: table,
-        ..l
-    }
-}
-
-fn end(l: Loader, c: u8) -> Loader
-    ensures { result ≡ end_of l c }
-{
-    if c == 10 {
-        return Loader {
-            spot: Spot::Done,
-            ..l
-        };
-    }
-    failed(l)
-}
-
-fn behind(l: Loader) -> Loader
-    ensures { result ≡ behind_of l }
-{
-    let n = l.table.n;
-    if n >= 8 {
-        return Loader {
-            spot: Spot::Wrong(11),
-            ..l
-        };
-    }
-    Loader {
-        spot: Spot::Wrong(n + 3),
-        ..l
-    }
-}
-
-// One byte more.
-fn fed(l: Loader, c: u8) -> Loader
-    ensures { result ≡ fed_of l c }
-{
-    let spot = l.spot;
-    match spot {
-        Spot::Text(k) => text(l, k, c),
-        Spot::Start => start(l, c),
-        Spot::Due => due(l, c),
-        Spot::Whole => whole(l, c),
-        Spot::Point => point(l, c),
-        Spot::Places => places(l, c),
-        Spot::Closed => closed(l, c),
-        Spot::End => end(l, c),
-        Spot::Done => behind(l),
-        Spot::Wrong(_) => l,
-    }
-}
-
-// Bytes more.
-pub fn feed(l: Loader, bytes: &[u8]) -> Loader
-    ensures { result ≡ fed_all l bytes.now }
-{
-    let mut loader = l;
-    let mut i = 0usize;
-    while i < bytes.len() {
-        loader = fed(loader, bytes[i]);
-        i += 1;
-    }
-    loader
-}
-
-// The line at which the end of the file shows, or 0.
-fn fault(l: Loader) -> usize
-    ensures { result ≡ fault_of l }
-{
-    let spot = l.spot;
-    let n = l.table.n;
-    match spot {
-        Spot::Text(k) => first_line(k, n),
-        Spot::Start => line(n),
-        Spot::Due => line(n),
-        Spot::Whole => line(n),
-        Spot::Point => line(n),
-        Spot::Places => line(n),
-        Spot::Closed => line(n),
-        Spot::End => line(n),
-        Spot::Done => 0,
-        Spot::Wrong(k) => k,
-    }
-}
-
-fn first_line(k: usize, n: usize) -> usize
-    ensures { result ≡ (if nat_lt k 10 then 1 else line_of n) }
-{
-    if k < 10 {
-        return 1;
-    }
-    line(n)
-}
-
-fn in_range(x: f64, y: f64) -> bool
-    ensures { result ≡ in_range (row x y) }
-{
-    (0.0 < x) & (x < 1.0) & (0.0 < y)
-}
-
-fn rises(x: f64, y: f64, u: f64, v: f64) -> bool
-    ensures { result ≡ rises (row x y) (row u v) }
-{
-    (x < u) & (y < v)
-}
-
-// The first row outside its range, or 0.
-fn outside(t: Table) -> usize
-    ensures { result ≡ outside_from 1 (rows_in t) }
-{
-    let xs = t.levels;
-    let ys = t.factors;
-    let n = count(t.n);
-    let mut i = 0usize;
-    while i < n {
-        if !in_range(xs[i], ys[i]) {
-            return i + 1;
+    // With one byte more, where a number may go on so.
+    #[tactic(auto, unfolding(crate::specs::Reading::number_after))]
+    fn next(self, c: u8) -> Option<Digits>
+        ensures { result ≡ number_after self c }
+    {
+        match c {
+            b'0'..=b'9' => self.digit(c - b'0'),
+            b'.' => self.point(),
+            _ => None,
         }
-        i += 1usize;
     }
-    0
-}
 
-// The first row that does not rise above the one before it, or 0.
-fn flat(t: Table) -> usize
-    ensures { result ≡ flat_from 2 (rows_in t) }
-{
-    let xs = t.levels;
-    let ys = t.factors;
-    let n = count(t.n);
-    let mut i = 0usize;
-    while i + 1 < n {
-        if !rises(xs[i], ys[i], xs[i + 1], ys[i + 1]) {
-            return i + 2;
+    // The double, where a number may end.
+    #[tactic(auto, unfolding(crate::specs::Reading::value_at))]
+    fn value(self) -> Option<f64>
+        ensures { result ≡ value_at self }
+    {
+        match self {
+            Digits::Whole(n) => Some(quotient(n, 1)),
+            Digits::Places(n, d) => Some(quotient(n, d)),
+            Digits::Due | Digits::Point(_) => None,
         }
-        i += 1usize;
-    }
-    0
-}
-
-fn refusal(number: u64, place: usize) -> Loaded
-    ensures { Refuses number place result }
-{
-    let table = single();
-    Loaded {
-        outcome: Outcome::Refused(number, place),
-        table: table,
     }
 }
 
-// The file has ended.
-pub fn ended(l: Loader) -> Loaded
-    ensures { Ends l result }
+// ---- the reader of a file
+
+impl Field {
+    // The byte behind its number.
+    fn stop(self) -> u8
+        ensures { result ≡ stop_of self }
+    {
+        match self {
+            Field::Level => b' ',
+            Field::Factor(_) => b')',
+        }
+    }
+
+    // Where the reader stands behind that byte.
+    fn behind(self, x: f64) -> Spot
+        ensures { result ≡ behind_of self x }
+    {
+        match self {
+            Field::Level => Spot::Number(Field::Factor(x), Digits::Due),
+            Field::Factor(level) => Spot::Closed(CoverageRow { level, factor: x }),
+        }
+    }
+
+    #[tactic(auto, unfolding(crate::specs::Reading::field_after))]
+    fn next(self, digits: Digits, c: u8) -> Option<Spot>
+        ensures { result ≡ field_after self digits c }
+    {
+        if c == self.stop() {
+            return digits.value().map(|x| self.behind(x));
+        }
+        digits.next(c).map(|more| Spot::Number(self, more))
+    }
+}
+
+// How many bytes of a text are read with one more, if that is the next.
+#[tactic(auto, unfolding(crate::specs::Reading::text_after))]
+fn text(expected: &[u8], k: usize, c: u8) -> Option<usize>
+    ensures { result ≡ text_after expected.now k c }
 {
-    let k = fault(l);
-    if k > 0 {
-        return refusal(16, k);
+    if c == *expected.get(k)? {
+        Some(k + 1)
+    } else {
+        None
     }
-    let t = l.table;
-    let o = outside(t);
-    if o > 0 {
-        return refusal(17, o);
+}
+
+impl Spot {
+    // Where the reader stands with one byte more, if the line may go on so. The line feed behind a row puts it among the rows.
+    fn next(self, rows: &mut ArrayVec<CoverageRow, 8>, c: u8) -> Option<Spot>
+        ensures spot { result ≡ next_at self (length rows.old.items) c }
+        ensures rows { rows.new.items ≡ rows_after self rows.old.items c }
+    {
+        match self {
+            Spot::Head(k) => text(FIRST_LINE, k, c).map(|j| {
+                if j < FIRST_LINE.len() {
+                    Spot::Head(j)
+                } else {
+                    Spot::Opening(0)
+                }
+            }),
+            Spot::Opening(k) => text(ROW_OPENING, k, c).map(|j| {
+                if j < ROW_OPENING.len() {
+                    Spot::Opening(j)
+                } else {
+                    Spot::Number(Field::Level, Digits::Due)
+                }
+            }),
+            Spot::Number(field, digits) => field.next(digits, c),
+            Spot::Closed(row) if c == b'\n' => {
+                rows.try_push(row).ok()?;
+                Some(Spot::Start)
+            }
+            Spot::Start if c == b'(' => Some(Spot::Opening(1)),
+            Spot::Start if c == b')' => Some(Spot::End),
+            Spot::End if c == b'\n' => Some(Spot::Done),
+            Spot::Closed(_) | Spot::Start | Spot::End | Spot::Done => None,
+            Spot::Wrong(_) => Some(self),
+        }
     }
-    let f = flat(t);
-    if f > 0 {
-        return refusal(18, f);
+}
+
+impl Loader {
+    ghost use Rattle.coverage.specs.Table.{says};
+
+    // Nothing is read yet.
+    #[tactic(auto, unfolding(crate::specs::Reading::begun_of))]
+    pub fn begin() -> Loader
+        ensures { result ≡ begun_of }
+    {
+        Loader {
+            spot: Spot::Head(0),
+            rows: ArrayVec::new(),
+        }
     }
-    Loaded {
-        outcome: Outcome::Accepted,
-        table: t,
+
+    // The number of the line that is being read.
+    fn line(&self) -> usize
+        ensures { result ≡ line_at self.now.spot (length self.now.rows) }
+    {
+        match self.spot {
+            Spot::Head(_) => 1,
+            Spot::Done => self.rows.len() + 3,
+            _ => self.rows.len() + 2,
+        }
+    }
+
+    // One byte more; where the line may not go on so, its number stays.
+    #[tactic(auto, unfolding(crate::specs::Reading::fed_of))]
+    fn take(&mut self, c: u8)
+        ensures { self.new ≡ fed_of self.old c }
+    {
+        let line = self.line();
+        let spot = self.spot.next(&mut self.rows, c);
+        self.spot = spot.unwrap_or(Spot::Wrong(line));
+    }
+
+    // Bytes more.
+    pub fn feed(&mut self, bytes: &[u8])
+        ensures { self.new ≡ fed_all self.old bytes.now }
+    {
+        for c in bytes {
+            self.take(*c);
+        }
+    }
+
+    // Whether what was read is of the form, were it the whole file, or the number of the first line that is not.
+    #[tactic(auto, unfolding(crate::specs::Reading::form_in))]
+    fn form(&self) -> Result<(), usize>
+        ensures answer { MatchResult result (λ _. form_in self.now ≡ Ok self.now.rows) (λ k. form_in self.now ≡ Err k) }
+        ensures least { OnOk result (1 ≤ length self.now.rows) }
+        ensures most { length self.now.rows ≤ 8 }
+    {
+        match self.spot {
+            Spot::Done => Ok(()),
+            Spot::Wrong(k) => Err(k),
+            _ => Err(self.line()),
+        }
+    }
+
+    // The file has ended.
+    #[tactic(auto, unfolding(crate::specs::File::judged))]
+    pub fn ended(self) -> Result<Table, TableRefusal>
+        ensures { says result ≡ judged (form_in self) }
+    {
+        self.form().map_err(|k| TableRefusalCode::Line.at(k))?;
+        let Loader { spot: _, rows } = self;
+        Table { rows }.judged()
     }
 }

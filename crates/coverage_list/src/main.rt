@@ -2,183 +2,95 @@
 // `(coverage (LEVEL FACTOR) ..)` with the doubles' bits, or `(declined NUMBER PLACE)`. Any other character is passed over.
 #![tactic(auto)]
 
-ghost use Rattle.std.specs.Prelude.{◌≤◌};
+ghost use Rattle.std.specs.Prelude.{◌<◌, IfSome};
 
-use coverage::{CoverageRow, Loader, Outcome, Table};
-use std::io;
+use coverage::{Loader, Table, TableRefusal};
+use std::io::Read;
+use std::{io, mem};
 
-// A file that is being read, and the first digit of its next byte, or 16.
-#[derive(Clone, Copy)]
+// A file that is being read, and the upper half of its next byte.
+#[derive(Drop)]
 struct Line {
     loader: Loader,
-    high: u8,
+    high: Option<u8>,
 }
 
-fn begin() -> Line {
-    let loader = coverage::begin();
-    Line {
-        loader: loader,
-        high: 16,
-    }
-}
-
-// The value of a digit, or 16.
-fn digit(c: u8) -> u8
-    ensures { result ≤ 16 }
+// The value of a digit.
+fn digit(c: u8) -> Option<u8>
+    ensures { IfSome result (λ d. d < 16) }
 {
-    if c < 48 {
-        return 16;
-    }
-    if c <= 57 {
-        return c - 48;
-    }
-    if c < 97 {
-        return 16;
-    }
-    if c <= 102 {
-        return c - 87;
-    }
-    16
-}
-
-// A character within a line.
-fn taken(l: Line, c: u8) -> Line {
-    let d = digit(c);
-    if d > 15 {
-        return l;
-    }
-    let high = l.high;
-    if high > 15 {
-        return Line { high: d, ..l };
-    }
-    let byte = [high * 16 + d];
-    let loader = coverage::feed(l.loader, &byte);
-    Line {
-        loader: loader,
-        high: 16,
+    match c {
+        b'0'..=b'9' => Some(c - b'0'),
+        b'a'..=b'f' => Some(c - b'a' + 10),
+        _ => None,
     }
 }
 
-// Puts what there is room for: the longest line has 299 bytes.
-fn put(out: &mut [u8; 512], at: usize, s: &[u8]) -> usize {
-    let mut k = at;
-    let mut i = 0usize;
-    while i < s.len() && k < 512 {
-        out[k] = s[i];
-        k += 1;
-        i += 1;
+impl Line {
+    fn begin() -> Line {
+        Line {
+            loader: Loader::begin(),
+            high: None,
+        }
     }
-    k
-}
 
-fn put_count(out: &mut [u8; 512], at: usize, n: u64) -> usize {
-    let text = numerals::write_count(n);
-    let digits = text.digits;
-    let len = text.len;
-    put(out, at, slices::first_bytes(&digits, len))
-}
-
-fn put_row(out: &mut [u8; 512], start: usize, row: CoverageRow) -> usize {
-    let level = numerals::write_double(row.level);
-    let factor = numerals::write_double(row.factor);
-    let mut at = put(out, start, b" (");
-    at = put(out, at, &level);
-    at = put(out, at, b" ");
-    at = put(out, at, &factor);
-    put(out, at, b")")
-}
-
-fn put_table(out: &mut [u8; 512], t: Table) -> usize {
-    let n = coverage::rows(t);
-    let mut at = put(out, 0, b"(coverage");
-    let mut k = 0usize;
-    while k < n {
-        at = put_row(out, at, coverage::row(t, k));
-        k += 1;
+    // A character within a line.
+    fn take(&mut self, c: u8) {
+        let Some(d) = digit(c) else {
+            return;
+        };
+        match self.high.take() {
+            None => self.high = Some(d << 4),
+            Some(high) => self.loader.feed(&[high | d]),
+        }
     }
-    put(out, at, b")\n")
-}
 
-fn put_refusal(out: &mut [u8; 512], number: u64, place: usize) -> usize {
-    let mut at = put(out, 0, b"(declined ");
-    at = put_count(out, at, number);
-    at = put(out, at, b" ");
-    at = put_count(out, at, place as u64);
-    put(out, at, b")\n")
-}
+    // A file has ended, and the next begins.
+    fn end(&mut self) -> Result<Table, TableRefusal> {
+        let Line { loader, high: _ } = mem::replace(self, Line::begin());
+        loader.ended()
+    }
 
-fn put_answer(out: &mut [u8; 512], outcome: Outcome, table: Table) -> usize {
-    match outcome {
-        Outcome::Accepted => put_table(out, table),
-        Outcome::Refused(number, place) => put_refusal(out, number, place),
+    fn take_bytes(&mut self, rt: &HostRuntime, bytes: &[u8]) -> io::Result<()> {
+        for c in bytes {
+            if *c == b'\n' {
+                write_answer(rt, &self.end())?;
+            } else {
+                self.take(*c);
+            }
+        }
+        Ok(())
     }
 }
 
-fn write_out(rt: &HostRuntime, out: &[u8; 512], end: usize) -> io::Result<()> {
-    rt.write_all(slices::first_bytes(out, end))
-}
-
-// A file has ended.
-fn write_answer(rt: &HostRuntime, l: Line) -> io::Result<()> {
-    let mut out = [0u8; 512];
-    let loaded = coverage::ended(l.loader);
-    let outcome = loaded.outcome;
-    let table = loaded.table;
-    let end = put_answer(&mut out, outcome, table);
-    write_out(rt, &out, end)
-}
-
-fn take_byte(rt: &HostRuntime, l: Line, c: u8) -> io::Result<Line> {
-    if c == 10 {
-        write_answer(rt, l)?;
-        return Ok(begin());
+fn write_table(rt: &HostRuntime, table: &Table) -> io::Result<()> {
+    print!(rt; "(coverage")?;
+    for row in table.rows() {
+        let level = numerals::pattern(row.level);
+        let factor = numerals::pattern(row.factor);
+        print!(rt; " ({level:016x} {factor:016x})")?;
     }
-    Ok(taken(l, c))
+    println!(rt; ")")
 }
 
-fn take_bytes(rt: &HostRuntime, l: Line, bytes: &[u8]) -> io::Result<Line> {
-    let mut line = l;
-    let mut i = 0usize;
-    while i < bytes.len() {
-        line = take_byte(rt, line, bytes[i])?;
-        i += 1;
+fn write_answer(rt: &HostRuntime, loaded: &Result<Table, TableRefusal>) -> io::Result<()> {
+    match loaded {
+        Ok(table) => write_table(rt, table),
+        Err(refusal) => println!(rt; "(declined {} {})", u64::from(refusal.code), refusal.place),
     }
-    Ok(line)
-}
-
-#[derive(Clone, Copy)]
-struct Read {
-    line: Line,
-    more: bool,
-}
-
-// Reads once, and takes what came.
-fn read_some<R: io::Read>(rt: &HostRuntime, input: &mut R, l: Line) -> io::Result<Read> {
-    let mut space = [0u8; 4096];
-    let n = input.read(&mut space)?;
-    if n == 0 {
-        return Ok(Read {
-            line: l,
-            more: false,
-        });
-    }
-    let line = take_bytes(rt, l, &space[..n])?;
-    Ok(Read { line, more: true })
 }
 
 // A proved loop has to end, and nothing says that the input does: no run uses up this count.
 fn main(rt: HostRuntime) -> io::Result<()> {
     let mut input = rt.reader();
-    let mut line = begin();
-    let mut turns = u64::MAX;
-    while turns > 0 {
-        let read = read_some(&rt, &mut input, line)?;
-        line = read.line;
-        if read.more {
-            turns -= 1;
-        } else {
-            turns = 0;
+    let mut line = Line::begin();
+    let mut space = [0u8; 4096];
+    for _ in 0..u64::MAX {
+        let n = input.read(&mut space)?;
+        if n == 0 {
+            break;
         }
+        line.take_bytes(&rt, &space[..n])?;
     }
     Ok(())
 }
