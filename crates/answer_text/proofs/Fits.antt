@@ -1,10 +1,10 @@
 -- Every answer's line fits the program's buffer: `answer_fits`. A report that stands is of a session within its 64 places, so its lists have at most 64
 -- entries each.
+use Rattle.std.specs.Prelude.{Option, None, Some, option_map}
 use Prim.Native.Nat.{ℕ, ◌≤◌}
 use mathlib.Core.Path.{◌≡◌, refl, subst}
 use mathlib.Core.Bool.{Bool, true, false, cond}
 use mathlib.Core.List.{List, [], ◌∷◌}
-use mathlib.Core.Option.{Option, none, some}
 use native.Mathlib.Omega.{arith}
 use lib.ListN.{length, take, length-take, length-append}
 use lib.Ieee.{Float}
@@ -12,14 +12,14 @@ use Rattle.definition.specs.Likelihood.{rows_of}
 use Rattle.definition.specs.Meaning.{observation_of}
 use Rattle.definition.specs.Summary.{Baseline, Report, Approximation, result_of, band_of, report_of}
 use Rattle.likelihood.proofs.Laws.{zip_length, zip3_within}
-use Rattle.report.specs.Places.{requested_at}
 use Rattle.lists.specs.Lists.{requested_in, observations_at}
 use Rattle.lists.specs.declared.Shots.{Shots}
 use Rattle.lists.specs.declared.Wanted.{Wanted}
 use Rattle.stencil.specs.Stencil.{rows_at}
 use Rattle.stencil.specs.declared.StencilRows.{StencilRows}
 use Rattle.phases.specs.Phases.{finished_of}
-use Rattle.session.specs.Meaning.{held_of, within_of, stands_in}
+use Rattle.session.specs.Meaning.{measured_of, baseline_from, held_of, within_of, stands_in}
+use Rattle.definition.specs.Refusals.{number_of}
 use Rattle.definition.specs.declared.Step.{Step}
 use Rattle.session.specs.Meaning as run
 use Rattle.report_parts.specs.Parts.{results_at, bands_at}
@@ -29,9 +29,8 @@ use Rattle.session.specs.declared.Session.{Session as Running}
 use Rattle.session.proofs.Laws.{shots_within, wanted_within}
 use Rattle.session.proofs.Reading.{not_standing, standing_within, report_stands}
 use Rattle.editing.specs.Meaning.{state, state_by}
-use Rattle.editing.specs.declared.Editing.{Editing}
-use Rattle.editing.specs.declared.Editing.TheVariants.{Closed, Asks}
-use Rattle.editing.proofs.Laws.{open_none}
+use Rattle.editing.specs.declared.OpenEdit.{OpenEdit}
+use Rattle.editing.proofs.Laws.{unreported}
 use Rattle.report_text.proofs.Lengths.{Bounded, warnings_most, report_length, question_length, declined_length}
 use Rattle.answer_text.specs.Answers.{said_text, answer_text, AnswerFits}
 
@@ -44,35 +43,36 @@ results_most s drops h =
     let results = zip_length result_of (observations_at s) (take s.n drops) in
     omega arith
 
-bands_most : (a : Approximation) (w : Wanted) (t : StencilRows) → w.n ≤ 64 → length (bands_at a w t) ≤ 64
+bands_most : (a : Approximation) (w : Wanted) (t : StencilRows 64) → w.n ≤ 64 → length (bands_at a w t) ≤ 64
 bands_most a w t h =
-    let taken = length-take w.n w.ranges in
-    let requested = zip_length requested_at (take w.n w.ranges) (take w.n w.sigmas) in
+    let taken = length-take w.n w.entries in
     let bands = zip_length (band_of a) (requested_in w) (rows_of (rows_at w.n t)) in
     omega arith
 
--- the baseline that there is
-kept : (on : Bool) (x b : Baseline) → cond on (some x) none ≡ some b → x ≡ b
-kept true x b e = cc
-kept false x b e = cc
+some_is : {x y : Baseline} → Some x ≡ Some y → x ≡ y
+some_is e = cc
+
+nothing : {A : Type 0} {p : Option A} {q : A} → p ≡ None → p ≡ Some q → ⊥
+nothing e f = let z : ◌≡◌ {A = ℕ} 0 1 = cc in omega arith
+
+-- those of the baseline, where the drops at the entered point are there
+entered_most : (b : Body) → b.shots.n ≤ 64 → (drops : Option (List Float)) (x : Baseline)
+    → baseline_from (measured_of b) (option_map (take b.shots.n) drops) ≡ Some x → length x.observations ≤ 64
+entered_most b h None x e = absurd (nothing refl e)
+entered_most b h (Some drops) x e = subst (λ (y : Baseline). length y.observations ≤ 64) (some_is e) (results_most b.shots drops h)
 
 bounded : (b : Body) → within_of b ≡ true → Bounded (report_of (finished_of (held_of b)))
 unfolding report_of
 bounded b h = record {
   results = results_most b.shots b.predicted (shots_within b h);
-  entered =
-      λ x e. subst (λ (y : Baseline). length y.observations ≤ 64) (kept b.has_baseline _ x e)
-      (results_most b.shots b.baseline (shots_within b h));
+  entered = λ x e. entered_most b (shots_within b h) b.baseline x e;
   bands = bands_most (report_of (finished_of (held_of b))).approximation b.wanted b.rows (wanted_within b h);
   warnings = warnings_most _ _ _ _ _ _;
 }
 
 -- ---- the report that stands
 
-nothing : {p : Option Report} {q : Report} → p ≡ none → p ≡ some q → ⊥
-nothing e f = let z : ◌≡◌ {A = ℕ} 0 1 = cc in omega arith
-
-run_bounded : (s : Running) (p : Report) → report_in (run.state s) ≡ some p → Bounded p
+run_bounded : (s : Running) (p : Report) → report_in (run.state s) ≡ Some p → Bounded p
 run_bounded s p e = by (stands_in s) refl
   where
     by : (t : Bool) → stands_in s ≡ t → Bounded p
@@ -81,17 +81,17 @@ run_bounded s p e = by (stands_in s) refl
         subst Bounded same (bounded s.body (standing_within s f))
     by false f = absurd (nothing (not_standing s f) e)
 
-pub shown_bounded : (s : Running) (x : Editing) (p : Report) → report_in (state_by s x) ≡ some p → Bounded p
-shown_bounded s Closed p e = run_bounded s p e
-shown_bounded s (Asks x) p e = absurd (nothing (open_none (run.state s) x) e)
+pub shown_bounded : (s : Running) (x : Option OpenEdit) (p : Report) → report_in (state_by s x) ≡ Some p → Bounded p
+shown_bounded s None p e = run_bounded s p e
+shown_bounded s (Some x) p e = absurd (nothing (unreported (run.state s) x) e)
 
 -- ---- the answer
 
-said_length : (w : Step) (shown : Option Report) → ((p : Report) → shown ≡ some p → Bounded p) → length (said_text w shown) ≤ 28200
+said_length : (w : Step) (shown : Option Report) → ((p : Report) → shown ≡ Some p → Bounded p) → length (said_text w shown) ≤ 28200
 said_length (Step.Question mv bc list) shown h = let l = question_length list mv bc in omega arith
-said_length Step.Report none h = omega arith
-said_length Step.Report (some p) h = report_length p (h p refl)
-said_length (Step.Refused number position) shown h = let l = declined_length number position in omega arith
+said_length Step.Report None h = omega arith
+said_length Step.Report (Some p) h = report_length p (h p refl)
+said_length (Step.Refused r) shown h = let l = declined_length (number_of r.code) r.position in omega arith
 
 pub answer_fits : AnswerFits
 unfolding answer_text

@@ -1,25 +1,37 @@
 -- The texts of a session's answers: by what an answer says, and by the report that stands.
-use Rattle.std.specs.Prelude.{◌≤◌, Bool, true, false, List, [], ◌∷◌, ◌++◌, length}
-use Rattle.std.proofs.Math.Option.{Option, none, some}
-use Rattle.definition.specs.Summary.{Band, Report}
-use Rattle.report.specs.Report.{Results}
+use Rattle.std.specs.Prelude.{ℕ, ◌≤◌, List, [], ◌∷◌, ◌++◌, length, Option, None, Some, option_map}
+use Rattle.definition.specs.Refusals.{number_of}
+use Rattle.definition.specs.Summary.{Report}
 use Rattle.definition.specs.declared.Step.{Step}
-use Rattle.report.specs.Reading.{baseline_results, report_in}
+use Rattle.report.specs.Reading.{place_in, baseline_results, report_in}
+use Rattle.report.specs.declared.TruingBaselineV1.{TruingBaselineV1}
+use Rattle.report.specs.declared.UncertaintyTruingReportV1.{UncertaintyTruingReportV1}
 use Rattle.editing.specs.Meaning.{state}
 use Rattle.editing.specs.declared.Session.{Session}
 use Rattle.editing.specs.declared.Answer.{Answer}
+use Rattle.numerals.specs.Numbers.{double_text}
 use Rattle.report_text.specs.Writing.{Text}
-use Rattle.report_text.specs.Texts.{question_text, declined_text, report_text}
+use Rattle.report_text.specs.Lists.{present}
+use Rattle.report_text.specs.Texts.{
+  bracketed,
+  or_none,
+  result_text,
+  band_text,
+  question_text,
+  declined_text,
+  report_text,
+  parts_text,
+}
 
 -- the report that stands, written out, or nothing where none does
 abbrev pub standing_text : Option Report → Text
-standing_text none = []
-standing_text (some p) = report_text p
+standing_text None = []
+standing_text (Some p) = report_text p
 
 abbrev pub said_text : Step → Option Report → Text
 said_text (Step.Question mv bc list) p = question_text list mv bc
 said_text Step.Report p = standing_text p
-said_text (Step.Refused number position) p = declined_text number position
+said_text (Step.Refused r) p = declined_text (number_of r.code) r.position
 
 unfoldable pub answer_text : Answer → Text
 answer_text a = said_text a.step (report_in (state a.session))
@@ -36,15 +48,23 @@ line_text a = line (answer_text a)
 abbrev pub AnswerFits : Type 0
 AnswerFits = (a : Answer) → length (line_text a) ≤ 32768
 
--- ---- the lists of the report that stands, empty where none does
+-- ---- a report by its head, its lists read from the session
 
-abbrev pub list_in : {A : Type 0} → (Report → List A) → Option Report → List A
-list_in f none = []
-list_in f (some p) = f p
+-- the text of what stands at a place of one of its lists
+abbrev pub texts_in : {A : Type 0} → (A → Text) → (Report → List A) → Session → ℕ → Option Text
+texts_in text list s i = option_map text (place_in list i (report_in (state s)))
 
-abbrev pub results_in : Bool → Session → Results
-results_in true s = list_in baseline_results (report_in (state s))
-results_in false s = list_in (λ p. p.observations) (report_in (state s))
+-- the first n of a list
+abbrev pub list_text : {A : Type 0} → (A → Text) → (Report → List A) → Session → ℕ → Text
+list_text text list s n = bracketed (present n (texts_in text list s))
 
-abbrev pub bands_in : Session → List Band
-bands_in s = list_in (λ p. p.bands) (report_in (state s))
+-- a baseline with its n results
+unfoldable pub entered_text : ℕ → Session → TruingBaselineV1 → Text
+entered_text n s b =
+    bracketed
+    (double_text b.muzzle_velocity_fps ∷ double_text b.ballistic_coefficient ∷ double_text b.chi_square ∷ list_text result_text baseline_results s n ∷ [])
+
+unfoldable pub shown_text : Session → UncertaintyTruingReportV1 → Text
+shown_text s h =
+    parts_text h (list_text result_text (λ p. p.observations) s h.observations) (or_none (entered_text h.observations s) h.baseline)
+    (list_text band_text (λ p. p.bands) s h.predictive_bands)

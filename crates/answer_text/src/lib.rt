@@ -1,113 +1,171 @@
 // The session's answers as lines of the protocol, without their line feeds.
 #![tactic(auto)]
 
-ghost use Rattle.std.specs.Prelude.{◌≡◌, true, take};
-ghost use Rattle.std.proofs.Math.Option.{some};
-ghost use Rattle.definition.specs.Summary.{Report};
-ghost use Rattle.report.specs.Places.{nth, result_says};
-ghost use Rattle.definition.specs.declared.Step.{Step};
-ghost use Rattle.definition.specs.declared.Distances.{Distances};
-ghost use Rattle.report.specs.Reading.{HeadOf};
-ghost use Rattle.report.specs.Reading.{report_in};
+ghost use Rattle.std.specs.Prelude.{◌≡◌};
+ghost use Rattle.report.specs.Reading.{baseline_results, report_in};
 ghost use Rattle.editing.specs.Meaning.{state};
 ghost use Rattle.report_text.specs.Writing.{Writes};
-ghost use Rattle.report_text.specs.Texts.{results_text, bands_text, report_text};
-ghost use Rattle.report_text.specs.Pieces.{baseline_list};
-ghost use Rattle.answer_text.specs.Answers.{results_in, bands_in, standing_text, answer_text};
+ghost use Rattle.report_text.specs.Writer.{Wrote};
+ghost use Rattle.report_text.specs.Texts.{or_none, result_text, band_text};
+ghost use Rattle.answer_text.specs.Answers.{texts_in, entered_text, shown_text, standing_text, answer_text};
 
-use definition::Step;
+use bands::TruingPredictiveBandV1;
+use definition::{Step, WeightedTruingObservationResultV1};
 use editing::{Answer, Session};
-use report::{BandAt, Baseline, ResultAt, Shown, UncertaintyTruingReportV1};
+use report::{TruingBaselineV1, UncertaintyTruingReportV1};
+use report_text::{First, Places, Text, Writer};
+use words::Word;
 
-// An observation result at the fit, or at the entered point.
-fn result(s: Session, of_baseline: bool, i: usize) -> ResultAt
-    ensures { result_says result ≡ nth i (results_in of_baseline s) }
-{
-    if of_baseline {
-        return editing::baseline_result(s, i);
+// ---- the lists of the report that stands
+
+#[derive(Clone, Copy)]
+struct Observations<'a>(&'a Session);
+
+impl Places for Observations<'_> {
+    type Item = WeightedTruingObservationResultV1;
+
+    ghost texts = { λ l i. texts_in result_text (λ p. p.observations) l.0.now i };
+
+    fn get(&self, i: usize) -> Option<WeightedTruingObservationResultV1> {
+        editing::observation_result(*self.0, i)
     }
-    editing::observation_result(s, i)
 }
 
-// The first n results.
-fn put_results(out: &mut [u8], at: usize, s: Session, of_baseline: bool, n: usize) -> usize
-    ensures { Writes out.old at out.new result (results_text (take n (results_in of_baseline s))) }
-{
-    let mut next = report_text::put_byte(out, at, b'(');
-    let mut i = 0usize;
-    while i < n {
-        let found = result(s, of_baseline, i);
-        let ResultAt::Given(o) = found else {
-            return report_text::put_byte(out, next, b')');
-        };
-        next = report_text::put_next_result(out, next, i, o);
-        i += 1;
+#[derive(Clone, Copy)]
+struct BaselineResults<'a>(&'a Session);
+
+impl Places for BaselineResults<'_> {
+    type Item = WeightedTruingObservationResultV1;
+
+    ghost texts = { λ l i. texts_in result_text baseline_results l.0.now i };
+
+    fn get(&self, i: usize) -> Option<WeightedTruingObservationResultV1> {
+        editing::baseline_result(*self.0, i)
     }
-    report_text::put_byte(out, next, b')')
 }
 
-// The first n bands.
-fn put_bands(out: &mut [u8], at: usize, s: Session, n: usize) -> usize
-    ensures { Writes out.old at out.new result (bands_text (take n (bands_in s))) }
-{
-    let mut next = report_text::put_byte(out, at, b'(');
-    let mut i = 0usize;
-    while i < n {
-        let found = editing::predictive_band(s, i);
-        let BandAt::Given(b) = found else {
-            return report_text::put_byte(out, next, b')');
-        };
-        next = report_text::put_next_band(out, next, i, b);
-        i += 1;
+#[derive(Clone, Copy)]
+struct Bands<'a>(&'a Session);
+
+impl Places for Bands<'_> {
+    type Item = TruingPredictiveBandV1;
+
+    ghost texts = { λ l i. texts_in band_text (λ p. p.bands) l.0.now i };
+
+    #[tactic(auto, using(crate::proofs::Laws::said_texts))]
+    fn get(&self, i: usize) -> Option<TruingPredictiveBandV1> {
+        editing::predictive_band(*self.0, i)
     }
-    report_text::put_byte(out, next, b')')
 }
 
-// The baseline's results, where there is one.
-fn put_baseline_list(out: &mut [u8], at: usize, s: Session, b: Baseline, n: usize) -> usize
-    ensures { Writes out.old at out.new result (baseline_list b (take n (results_in true s))) }
-{
-    match b {
-        Baseline::Absent => report_text::put_bytes(out, at, b""),
-        Baseline::Given(_) => put_results(out, at, s, true, n),
+// ---- answers
+
+// The baseline, if there is one, with its results.
+#[derive(Drop)]
+struct Entered<'a> {
+    baseline: Option<TruingBaselineV1>,
+    results: First<BaselineResults<'a>>,
+}
+
+impl Text for Entered<'_> {
+    ghost text = { λ e. or_none (entered_text e.results.n e.results.places.0.now) e.baseline };
+
+    #[tactic(auto, using(report_text::proofs::Putting::next_field, report_text::proofs::Putting::closing), unfolding(crate::specs::Answers::entered_text, words::specs::Words::word_at))]
+    fn put(&self, w: &mut Writer<'_>) {
+        match self.baseline {
+            None => Word::None.put(w),
+            Some(b) => {
+                w.open(&b.muzzle_velocity_fps);
+                w.field(&b.ballistic_coefficient);
+                w.field(&b.chi_square);
+                w.field(&self.results);
+                w.close();
+            }
+        }
     }
 }
 
 // A report by its head, its lists read from the session.
-fn put_shown(out: &mut [u8], at: usize, s: Session, h: UncertaintyTruingReportV1) -> usize
-    ensures { (p : Report) → report_in (state s) ≡ some p → HeadOf h p → Writes out.old at out.new result (report_text p) }
-{
-    let baseline = h.baseline;
-    let n = h.observations;
-    let m = h.predictive_bands;
-    let at = report_text::put_head(out, at, h);
-    let at = put_results(out, at, s, false, n);
-    let at = report_text::put_baseline_head(out, at, baseline);
-    let at = put_baseline_list(out, at, s, baseline, n);
-    let at = report_text::put_baseline_end(out, at, baseline);
-    let at = report_text::put_middle(out, at, h);
-    let at = put_bands(out, at, s, m);
-    report_text::put_end(out, at, h)
+#[derive(Clone, Copy)]
+struct Shown<'a> {
+    session: &'a Session,
+    head: UncertaintyTruingReportV1,
+}
+
+impl Text for Shown<'_> {
+    ghost text = { λ r. shown_text r.session.now r.head };
+
+    #[tactic(auto, using(report_text::proofs::Putting::next_field, report_text::proofs::Putting::closing), unfolding(crate::specs::Answers::shown_text, report_text::specs::Texts::parts_text, words::specs::Words::word_at))]
+    fn put(&self, w: &mut Writer<'_>) {
+        let Shown { session, head } = self;
+        w.open(&Word::Report);
+        w.field(&(head.schema_version as u64));
+        w.field(&head.map_muzzle_velocity_fps);
+        w.field(&head.map_ballistic_coefficient);
+        w.field(&(head.iterations as u64));
+        w.field(&head.converged);
+        w.field(&head.priors);
+        w.field(&First {
+            n: head.observations,
+            places: Observations(session),
+        });
+        w.field(&Entered {
+            baseline: head.baseline,
+            results: First {
+                n: head.observations,
+                places: BaselineResults(session),
+            },
+        });
+        w.field(&head.diagnostics);
+        w.field(&head.approximation);
+        w.field(&First {
+            n: head.predictive_bands,
+            places: Bands(session),
+        });
+        w.field(&head.warnings);
+        w.close();
+    }
 }
 
 // The report that stands, or nothing where none does.
-fn put_report(out: &mut [u8], at: usize, s: Session) -> usize
-    ensures { Writes out.old at out.new result (standing_text (report_in (state s))) }
+#[tactic(auto, using(crate::proofs::Laws::one_stands, crate::proofs::Laws::none_stands, report_text::proofs::Putting::wrote_nothing))]
+fn put_report(w: &mut Writer<'_>, s: Session)
+    ensures { Wrote w.old w.new (standing_text (report_in (state s))) }
 {
     match editing::report(s) {
-        Shown::Absent => report_text::put_bytes(out, at, b""),
-        Shown::Given(h) => put_shown(out, at, s, h),
+        None => {}
+        Some(head) => Shown { session: &s, head }.put(w),
     }
 }
 
+#[tactic(auto, using(report_text::proofs::Putting::next_field, report_text::proofs::Putting::closing), unfolding(crate::specs::Answers::answer_text, report_text::specs::Texts::question_text, report_text::specs::Texts::declined_text, words::specs::Words::word_at))]
+pub fn write_answer(w: &mut Writer<'_>, a: Answer)
+    ensures { Wrote w.old w.new (answer_text a) }
+{
+    match a.step {
+        Step::Question(mv, bc, list) => {
+            w.open(&Word::Question);
+            w.field(&list);
+            w.field(&mv);
+            w.field(&bc);
+            w.close();
+        }
+        Step::Report => put_report(w, a.session),
+        Step::Refused(refusal) => {
+            let (number, position) = (refusal.code.number(), refusal.position as u64);
+            w.open(&Word::Declined);
+            w.field(&number);
+            w.field(&position);
+            w.close();
+        }
+    }
+}
+
+// The answer from `at` on: the next position.
 pub fn put_answer(out: &mut [u8], at: usize, a: Answer) -> usize
     ensures { Writes out.old at out.new result (answer_text a) }
 {
-    let s = a.session;
-    let step = a.step;
-    match step {
-        Step::Question(mv, bc, list) => report_text::put_question(out, at, list, mv, bc),
-        Step::Report => put_report(out, at, s),
-        Step::Refused(n, i) => report_text::put_declined(out, at, n as u64, i as u64),
-    }
+    let mut w = Writer::new(out, at);
+    write_answer(&mut w, a);
+    w.at()
 }

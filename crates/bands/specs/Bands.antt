@@ -1,5 +1,4 @@
 -- What a band of the code says in the definition's terms.
-use Rattle.interval.specs.Interval.{says}
 use Rattle.definition.specs.Summary.{Band}
 use Rattle.bands.specs.declared.TruingPredictiveBandV1.{TruingPredictiveBandV1}
 
@@ -7,6 +6,6 @@ abbrev pub band_says : TruingPredictiveBandV1 → Band
 band_says b = record {
   range = b.range_yd;
   predicted_drop = b.predicted_drop;
-  latent = says b.latent_interval_95;
-  future = says b.future_observation_interval_95;
+  latent = b.latent_interval_95;
+  future = b.future_observation_interval_95;
 }

@@ -1,5 +1,5 @@
 -- What the functions that C links answer, byte by byte. A byte is a number below 256.
-use Rattle.std.specs.Prelude.{ℕ, zero, suc, ◌+◌, ◌*◌, ◌/◌, ◌%◌, Bool, true, false, cond, not, ◌||◌, List, [], ◌∷◌, ◌++◌, eqb, ltb, length, take, drop, Float}
+use Rattle.std.specs.Prelude.{ℕ, zero, suc, ◌+◌, ◌*◌, ◌/◌, ◌%◌, Bool, true, false, cond, not, ◌||◌, List, [], ◌∷◌, ◌++◌, eqb, ltb, length, take, drop, Float, Option, None, Some}
 use Rattle.std.specs.Float.{binary64}
 use Rattle.std.specs.Float.Ieee.{of_bits, to_bits}
 use Rattle.matrix.specs.Matrix.{Inverted, inverse, non_finite, rank_deficient, inverse_of}
@@ -8,8 +8,7 @@ use Rattle.definition.specs.Request.{Observation}
 use Rattle.definition.specs.Likelihood.{chi_square_of, with_priors_of}
 use Rattle.definition.specs.Meaning.{observations_of}
 use Rattle.definition.specs.declared.Point.{Point}
-use Rattle.definition.specs.declared.Prior.{Prior}
-use Rattle.definition.specs.declared.Prior.TheVariants.{Absent, Normal}
+use Rattle.definition.specs.declared.NormalPriorV1.{NormalPriorV1}
 use Rattle.definition.specs.declared.TruingPriorsV1.{TruingPriorsV1}
 use Rattle.slices.specs.Slices.{laid_over}
 
@@ -63,9 +62,9 @@ pub record Outcome : Type 0 where
 abbrev pub records_of : ℕ → List ℕ → List Observation
 records_of n bytes = observations_of (column_of 24 0 n bytes) (column_of 24 8 n bytes) (column_of 24 16 n bytes)
 
-abbrev pub prior_of : Bool → Float → Float → Prior
-prior_of false mean sigma = Absent
-prior_of true mean sigma = Normal (record { mean = mean; sigma = sigma })
+abbrev pub prior_of : Bool → Float → Float → Option NormalPriorV1
+prior_of false mean sigma = None
+prior_of true mean sigma = Some (record { mean = mean; sigma = sigma })
 
 -- bit 0 says that the speed's prior is given and bit 1 the coefficient's; no other bit counts
 unfoldable pub priors_of : ℕ → Float → Float → Float → Float → TruingPriorsV1

@@ -1,4 +1,5 @@
 // The functions that C and Rust link, by the exports of `c_api_c`.
+// Kept: numbers for refusals, and lists as bytes, are the C interface.
 #![tactic(auto)]
 
 ghost use Rattle.std.specs.Prelude.{◌≡◌, ◌∷◌, [], ◌+◌, ◌*◌, ◌≤◌, ◌<◌, length, replicate};
@@ -8,8 +9,9 @@ ghost use Rattle.slices.specs.Slices.{laid_over};
 ghost use Rattle.c_api.specs.Desk.{little_endian, double_at, column_of, double_bytes, put_at, prior_of, priors_of, sum_of, sum_outcome, inverse_bytes};
 ghost use Rattle.c_api.specs.Desk.{inverse_outcome};
 
-use definition::{NormalPriorV1, Point, Prior, TruingPriorsV1};
-use matrix::{Inverse, Symmetric2};
+use definition::{NormalPriorV1, Point, TruingPriorsV1};
+use likelihood::Columns;
+use matrix::{InverseError, Symmetric2};
 
 // The observations that an objective sum holds at most, and the bytes of one.
 const MAX_OBSERVATIONS: usize = 64;
@@ -53,10 +55,8 @@ fn column(bytes: &[u8], stride: usize, offset: usize, n: usize) -> [f64; 64]
     ensures { result ≡ laid_over (column_of stride offset n bytes.now) (replicate 64 zero64) }
 {
     let mut a = [0.0; 64];
-    let mut i = 0usize;
-    while i < n {
+    for i in 0..n {
         a[i] = double_at(bytes, i * stride + offset);
-        i += 1usize;
     }
     a
 }
@@ -66,13 +66,9 @@ fn put_double(out: &mut [u8], at: usize, x: f64)
     ensures { out.new ≡ put_at at (double_bytes x) out.old }
 {
     let mut rest = numerals::pattern(x);
-    let mut i = at;
-    let mut left = DOUBLE;
-    while left > 0 {
+    for i in at..at + DOUBLE {
         out[i] = (rest % 256) as u8;
         rest /= 256;
-        i += 1usize;
-        left -= 1usize;
     }
 }
 
@@ -85,13 +81,14 @@ pub fn truing_root(x: f64) -> f64
     root::root(x)
 }
 
-fn prior(given: bool, mean: f64, sigma: f64) -> Prior
+// Kept: a flag beside the numbers is the form of the C interface.
+fn prior(given: bool, mean: f64, sigma: f64) -> Option<NormalPriorV1>
     ensures { result ≡ prior_of given mean sigma }
 {
     if given {
-        return Prior::Normal(NormalPriorV1 { mean, sigma });
+        return Some(NormalPriorV1 { mean, sigma });
     }
-    Prior::Absent
+    None
 }
 
 fn priors_of(
@@ -120,14 +117,12 @@ fn sum(priors: TruingPriorsV1, p: Point, n: usize, observations: &[u8], replies:
     let drops = column(observations, RECORD, 8, n);
     let sigmas = column(observations, RECORD, 16, n);
     let predicted = column(replies, DOUBLE, 0, n);
-    likelihood::objective_sum(
-        slices::first_places(&ranges, n),
-        slices::first_places(&drops, n),
-        slices::first_places(&sigmas, n),
-        priors,
-        p,
-        slices::first_places(&predicted, n),
-    )
+    let observed = Columns {
+        ranges: slices::first_places(&ranges, n),
+        drops: slices::first_places(&drops, n),
+        sigmas: slices::first_places(&sigmas, n),
+    };
+    observed.objective_sum(priors, p, slices::first_places(&predicted, n))
 }
 
 // The objective sum at a point, before it is judged. Observations are records of three doubles, distance, drop and
@@ -175,13 +170,13 @@ pub fn truing_objective_sum(
     0
 }
 
-fn put_inverse(out: &mut [u8], a00: f64, a01: f64, a11: f64, condition: f64)
+fn put_inverse(out: &mut [u8], inverse: Symmetric2, condition: f64)
     requires { 32 ≤ length out.old }
-    ensures { out.new ≡ put_at 0 (inverse_bytes (record { a00 = a00; a01 = a01; a11 = a11 }) condition) out.old }
+    ensures { out.new ≡ put_at 0 (inverse_bytes inverse condition) out.old }
 {
-    put_double(out, 0, a00);
-    put_double(out, 8, a01);
-    put_double(out, 16, a11);
+    put_double(out, 0, inverse.a00);
+    put_double(out, 8, inverse.a01);
+    put_double(out, 16, inverse.a11);
     put_double(out, 24, condition);
 }
 
@@ -195,13 +190,12 @@ pub fn truing_inverse(a00: f64, a01: f64, a11: f64, out: &mut [u8]) -> u32
     if out.len() < INVERSE {
         return 3;
     }
-    let found = Symmetric2 { a00, a01, a11 }.inverse_with_condition();
-    match found {
-        Inverse::NonFiniteInformation => 1,
-        Inverse::RankDeficientInformation => 2,
-        Inverse::Found { inverse, condition } => {
-            put_inverse(out, inverse.a00, inverse.a01, inverse.a11, condition);
+    match (Symmetric2 { a00, a01, a11 }).inverse_with_condition() {
+        Ok((inverse, condition)) => {
+            put_inverse(out, inverse, condition);
             0
         }
+        Err(InverseError::NonFiniteInformation) => 1,
+        Err(InverseError::RankDeficientInformation) => 2,
     }
 }

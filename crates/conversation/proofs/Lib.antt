@@ -1,3 +1,4 @@
+-- The laws behind the functions' proofs.
 pub mod Standing
-pub mod Responses
 pub mod Replies
+pub mod Responses

@@ -1,9 +1,9 @@
 -- Of a reply the first 65 entries serve: a question has at most 64, so that more than 65 are declined as 65 are. Assumes nothing.
+use Rattle.std.specs.Prelude.{Option, None, Some}
 use Prim.Native.Nat.{ℕ, ◌≤◌, ◌<◌}
 use mathlib.Core.Path.{◌≡◌, refl, sym, ap, ◌∙◌, subst}
 use mathlib.Core.Bool.{Bool, true, false, cond, ◌&&◌}
 use mathlib.Core.List.{List, [], ◌∷◌, map}
-use mathlib.Core.Option.{Option, none, some}
 use native.Mathlib.Omega.{arith}
 use borrow.Author.Tests.{leb-true, leb-false, ne_eqb}
 use lib.Dec.{leb, eqb}
@@ -16,19 +16,19 @@ use Rattle.definition.specs.Whole.{whole}
 use Rattle.definition.specs.Laws.{Asks}
 use Rattle.definition.specs.declared.Point.{Point}
 use Rattle.definition.proofs.Questions.{asks_now}
-use Rattle.definition.specs.Session.{sizes_for, wants, right_length}
+use Rattle.definition.specs.Session.{sizes_for, wants}
 use Rattle.editing.specs.declared.Session.{Session}
-use Rattle.demands.specs.Calls.{Call, resume, Editing, At, rest_by, rest_at, Taking, declines, takes, taking_reply, stance, after_taken, unless_declined}
+use Rattle.demands.specs.Calls.{Call, reply, resume, Editing, At, rest_by, rest_at, Taking, declines, takes, taking_reply, stance, after_taken, unless_declined}
 use Rattle.demands.specs.Calls.{after_call}
 use Rattle.demands.specs.Calls.{due, due_to}
 use Rattle.demands.specs.Standing.{IsNew, News}
-use Rattle.definition.specs.Run.{Entry, drop_or0, is_missing}
+use Rattle.definition.specs.Run.{Entry}
 use Rattle.lines.specs.Lines.{Form}
 use Rattle.lines.specs.Lines as form
 use Rattle.lines.specs.Reading.{short}
 use Rattle.requests.specs.Kept.{kept}
 use Rattle.requests.proofs.Openings.{many_shots, many_distances}
-use Rattle.conversation.specs.Conversation.{Conversation, reply_of, says, calls, answer_to}
+use Rattle.conversation.specs.Conversation.{Conversation, says, calls, answer_to}
 use Rattle.conversation.specs.Tracks.{Stands}
 
 -- ---- a question has at most 64 distances
@@ -77,18 +77,13 @@ asks_few : (s : Session) (o : Opening) (t : At) → Stands s o t → (p : Point)
 asks_few s o t h p w k e = by t.last h.inv.news e
   where
     by : (l : Option Editing) → News l (rest_by (kept o) t.run l) → rest_by o t.run l ≡ ask p w k → wants (sizes_for o) w ≤ 64
-    by none n f = wants_few o t.run p w k f
-    by (some x) n f = of_edit o p w (asks_now (subst (Asks IsNew 5) f n))
+    by None n f = wants_few o t.run p w k f
+    by (Some x) n f = of_edit o p w (asks_now (subst (Asks IsNew 5) f n))
 
 -- ---- more than 65 entries
 
-drops_long : (es : List Entry) → length (map drop_or0 es) ≡ length es
-drops_long [] = refl
-drops_long (e ∷ es) = let h = drops_long es in omega arith
-
-wrong_length : (n : ℕ) (es : List Entry) → n < length es → right_length n (map drop_or0 es) (map is_missing es) ≡ false
-wrong_length n es h =
-    ap (λ (b : Bool). b && eqb (length (map is_missing es)) n) (ne_eqb (length (map drop_or0 es)) n (λ q. omega (arith, drops_long es)))
+wrong_length : (n : ℕ) (es : List Entry) → n < length es → eqb (length es) n ≡ false
+wrong_length n es h = ne_eqb (length es) n (λ q. omega (arith, q, h))
 
 module _ (o : Opening) (t : At) where
   same_declined : (x y : Call) (n : ℕ) → stance o t x ≡ declines n → stance o t y ≡ declines n
@@ -98,30 +93,30 @@ module _ (o : Opening) (t : At) where
     ap (λ (z : Taking). due z (rest_at o (after_call o t x))) e ∙ sym (ap (λ (z : Taking). due z (rest_at o (after_call o t y))) f),
   )
 
-  closed : {u : Run Finished} (es : List Entry) → rest_at o t ≡ u → taking_reply (sizes_for o) u (map drop_or0 es) (map is_missing es) ≡ declines 8
-      → stance o t (reply_of es) ≡ declines 8
-  closed es e q = ap (λ (v : Run Finished). taking_reply (sizes_for o) v (map drop_or0 es) (map is_missing es)) e ∙ q
+  closed : {u : Run Finished} (es : List Entry) → rest_at o t ≡ u → taking_reply (sizes_for o) u es ≡ declines 8
+      → stance o t (reply es) ≡ declines 8
+  closed es e q = ap (λ (v : Run Finished). taking_reply (sizes_for o) v es) e ∙ q
 
   declined_long : (u : Run Finished) → rest_at o t ≡ u → ((p : Point) (w : Which) (k : Reply → Run Finished) → u ≡ ask p w k → wants (sizes_for o) w ≤ 64)
       → (es : List Entry) → 65 < length es
-      → (after_call o t (reply_of (take 65 es)) ≡ after_call o t (reply_of es)) × (due_to o t (reply_of (take 65 es)) ≡ due_to o t (reply_of es))
+      → (after_call o t (reply (take 65 es)) ≡ after_call o t (reply es)) × (due_to o t (reply (take 65 es)) ≡ due_to o t (reply es))
   declined_long (done c) e h es l =
-      same_declined (reply_of (take 65 es)) (reply_of es) 8 (closed (take 65 es) e refl) (closed es e refl)
+      same_declined (reply (take 65 es)) (reply es) 8 (closed (take 65 es) e refl) (closed es e refl)
   declined_long (refuse n i) e h es l =
-      same_declined (reply_of (take 65 es)) (reply_of es) 8 (closed (take 65 es) e refl) (closed es e refl)
+      same_declined (reply (take 65 es)) (reply es) 8 (closed (take 65 es) e refl) (closed es e refl)
   declined_long (ask p w k) e h es l =
-      same_declined (reply_of (take 65 es)) (reply_of es) 9 (no (take 65 es) (omega (arith, length-take 65 es))) (no es (omega arith))
+      same_declined (reply (take 65 es)) (reply es) 9 (no (take 65 es) (omega (arith, length-take 65 es))) (no es (omega arith))
     where
-      no : (fs : List Entry) → 64 < length fs → stance o t (reply_of fs) ≡ declines 9
+      no : (fs : List Entry) → 64 < length fs → stance o t (reply fs) ≡ declines 9
       no fs g =
-          ap (λ (u : Run Finished). taking_reply (sizes_for o) u (map drop_or0 fs) (map is_missing fs)) e
+          ap (λ (u : Run Finished). taking_reply (sizes_for o) u fs) e
           ∙ ap (λ (b : Bool). cond b takes (declines 9)) (wrong_length (wants (sizes_for o) w) fs (let f = h p w k refl in omega arith))
 
-reply_kept : (s : Session) (u : Conversation) → Stands s u.opening u.at → (es : List Entry) → calls u (reply_of (take 65 es)) ≡ calls u (reply_of es)
+reply_kept : (s : Session) (u : Conversation) → Stands s u.opening u.at → (es : List Entry) → calls u (reply (take 65 es)) ≡ calls u (reply es)
 reply_kept s u h es = by (leb (length es) 65) refl
   where
-    by : (b : Bool) → leb (length es) 65 ≡ b → calls u (reply_of (take 65 es)) ≡ calls u (reply_of es)
-    by true e = ap (λ (fs : List Entry). calls u (reply_of fs)) (take_all 65 es (leb-true (length es) 65 e))
+    by : (b : Bool) → leb (length es) 65 ≡ b → calls u (reply (take 65 es)) ≡ calls u (reply es)
+    by true e = ap (λ (fs : List Entry). calls u (reply fs)) (take_all 65 es (leb-true (length es) 65 e))
     by false e =
         let r = declined_long u.opening u.at (rest_at u.opening u.at) refl (asks_few s u.opening u.at h) es (leb-false (length es) 65 e) in
         λ i. (record { lines = u.lines; section = u.section; request = u.request; opening = u.opening; at = r.0 i }, says (r.1 i))

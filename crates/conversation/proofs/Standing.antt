@@ -1,18 +1,16 @@
 -- The session of the first 65 stands for the opening of all: what it says is the definition's. Assumes nothing.
+use Rattle.std.specs.Prelude.{None}
 use Prim.Native.Nat.{ℕ}
 use mathlib.Core.Path.{◌≡◌, refl, sym, ap, ◌∙◌, subst}
-use mathlib.Core.Option.{none}
 use mathlib.Core.Logic.{◌⊎◌, inl, inr}
 use Rattle.definition.specs.Request.{Opening}
 use Rattle.definition.specs.Run.{Run, refuse}
 use Rattle.definition.specs.Laws.{put}
 use Rattle.definition.specs.Summary.{Finished}
 use Rattle.definition.specs.Whole.{whole}
-use Rattle.definition.specs.Session.{head, sizes_for}
-use Rattle.definition.specs.declared.Step.{Step}
+use Rattle.definition.specs.Session.{Said, head, sizes_for, says_of, Opened}
 use Rattle.report.specs.Reading.{report_in}
-use Rattle.editing.specs.Meaning.{state}
-use Rattle.editing.proofs.Contracts.{Opened}
+use Rattle.editing.specs.Meaning.{state, seen}
 use Rattle.editing.specs.declared.Session.{Session}
 use Rattle.editing.specs.declared.Answer.{Answer}
 use Rattle.demands.specs.Calls.{Call, reply, refuse_point, change, At, first, rest_at, kept_by, finished_by, finished_at, report_by, taking_reply, taking_refusal}
@@ -27,32 +25,32 @@ use Rattle.requests.proofs.Openings.{Both, kept_all, kept_whole}
 -- ---- a call
 
 -- what an answer comes to: where it stands, and what it says
-pub record Comes (a : Answer) (o : Opening) (t : At) (due : Step) : Type 0 where
+pub record Comes (a : Answer) (o : Opening) (t : At) (due : Said) : Type 0 where
   pub stands : Stands a.session o t
-  pub says : a.step ≡ due
+  pub says : says_of a.step ≡ due
 
 -- on a refused opening every call is declined
 record Idle (o : Opening) (x : Call) (n : ℕ) : Type 0 where
   stays : after_call o first x ≡ first
-  due : due_to o first x ≡ Step.Refused n 0
+  due : due_to o first x ≡ Said.refusal n 0
 
 abbrev idle_by : Call → ℕ
-idle_by (reply ds ms) = 8
+idle_by (reply es) = 8
 idle_by refuse_point = 8
 idle_by (change e) = 14
 
 idle : (o : Opening) (n i : ℕ) → whole o ≡ refuse n i → (x : Call) → Idle o x (idle_by x)
-idle o n i e (reply ds ms) = record {
-  stays = ap (λ (u : Run Finished). unless_declined (taking_reply (sizes_for o) u ds ms) first (after_taken o first (reply ds ms))) e;
-  due = ap (λ (u : Run Finished). due (taking_reply (sizes_for o) u ds ms) (rest_at o (after_call o first (reply ds ms)))) e;
+idle o n i e (reply es) = record {
+  stays = ap (λ (u : Run Finished). unless_declined (taking_reply (sizes_for o) u es) first (after_taken o first (reply es))) e;
+  due = ap (λ (u : Run Finished). due (taking_reply (sizes_for o) u es) (rest_at o (after_call o first (reply es)))) e;
 }
 idle o n i e refuse_point = record {
   stays = ap (λ (u : Run Finished). unless_declined (taking_refusal u) first (after_taken o first refuse_point)) e;
   due = ap (λ (u : Run Finished). due (taking_refusal u) (rest_at o (after_call o first refuse_point))) e;
 }
 idle o n i e (change d) = record {
-  stays = ap (λ (u : Run Finished). unless_declined (taking_edit (finished_by none u) d) first (after_taken o first (change d))) e;
-  due = ap (λ (u : Run Finished). due (taking_edit (finished_by none u) d) (rest_at o (after_call o first (change d)))) e;
+  stays = ap (λ (u : Run Finished). unless_declined (taking_edit (finished_by None u) d) first (after_taken o first (change d))) e;
+  due = ap (λ (u : Run Finished). due (taking_edit (finished_by None u) d) (rest_at o (after_call o first (change d)))) e;
 }
 
 pub called : (s : Session) (o : Opening) (t : At) → Stands s o t → (x : Call) (a : Answer) → Meets x s a → Comes a o (after_call o t x) (due_to o t x)
@@ -62,7 +60,7 @@ called s o t h x a m = by h.all
     g = step (kept o) t s h.inv x a m
 
     P : Opening → Type 0
-    P p = Inv (kept o) (after_call p t x) a.session × (a.step ≡ due_to p t x)
+    P p = Inv (kept o) (after_call p t x) a.session × (says_of a.step ≡ due_to p t x)
 
     by : (kept o ≡ o) ⊎ Refuses o t → Comes a o (after_call o t x) (due_to o t x)
     by (inl e) =
@@ -81,7 +79,7 @@ called s o t h x a m = by h.all
         }
 
 -- the opening
-pub opened : (o : Opening) (a : Answer) → Opened (kept o) a → Comes a o first (head (whole o))
+pub opened : (o : Opening) (a : Answer) → Opened seen (kept o) (says_of a.step) a.session → Comes a o first (head (whole o))
 opened o a m =
     let inv = begins (kept o) a m in
     record {
@@ -106,5 +104,5 @@ reported s o t h = by h.all
     by : (kept o ≡ o) ⊎ Refuses o t → report_in (state s) ≡ report_by (finished_at o t)
     by (inl e) = ours ∙ ap (λ (p : Opening). report_by (finished_at p t)) e
     by (inr r) =
-        ours ∙ ap (λ (v : At). report_by (finished_at (kept o) v)) r.still ∙ ap (λ (u : Run Finished). report_by (finished_by none u)) (kept_whole o)
+        ours ∙ ap (λ (v : At). report_by (finished_at (kept o) v)) r.still ∙ ap (λ (u : Run Finished). report_by (finished_by None u)) (kept_whole o)
         ∙ sym (ap (λ (v : At). report_by (finished_at o v)) r.still)

@@ -1,23 +1,21 @@
 -- The line protocol between two lines: where a conversation stands, and what a line's form does to it and gets for an answer. It reads beside docs/PROTOCOL.md.
 -- What is said
 -- to a call on the session, and where it stands then, are `due_to` and `after_call` (demands); the texts are those of `report_text` and `answer_text`.
-use Rattle.std.specs.Prelude.{ℕ, Bool, true, false, List, [], ◌++◌, map, length}
-use Rattle.std.proofs.Math.Option.{Option}
+use Rattle.std.specs.Prelude.{ℕ, Bool, true, false, List, [], ◌++◌, length, Option}
 use Rattle.numeric.specs.Numeric.{zero64}
 use Rattle.definition.specs.Request.{Opening}
-use Rattle.definition.specs.Run.{Entry, drop_or0, is_missing}
 use Rattle.definition.specs.Laws.{put}
 use Rattle.definition.specs.Summary.{Report}
 use Rattle.definition.specs.Whole as edits
 use Rattle.definition.specs.Whole.{whole}
-use Rattle.definition.specs.Session.{head, more_of}
-use Rattle.definition.specs.declared.Step.{Step}
+use Rattle.definition.specs.Session.{Said, head, more_of}
 use Rattle.demands.specs.Calls.{Call, reply, refuse_point, change, At, first, finished_at, report_by, after_call, due_to}
 use Rattle.lines.specs.Lines.{Form, malformed, entered, shot, prior_speed, prior_coefficient, distance, open_plain, drops, refused, put_in, take_out, exchange}
 use Rattle.lines.specs.Lines.{asked, page}
 use Rattle.report_text.specs.Writing.{Text}
 use Rattle.report_text.specs.Texts.{asked_text, page_count_text, malformed_text}
-use Rattle.answer_text.specs.Answers.{said_text, line}
+use Rattle.answer_text.specs.Answers.{standing_text, line}
+use Rattle.report_text.specs.Texts.{question_text, declined_text}
 use Rattle.page_text.specs.Page.{lines_in, page_in}
 use Rattle.requests.specs.Request.{empty_request, with_shot, with_speed, with_coefficient, with_distance, normal, requested_with}
 use Rattle.conversation.specs.declared.Section.{Section}
@@ -81,7 +79,7 @@ pub data Answer : Type 0 where
   -- the page of the report that stands
   shown_page : Answer
   -- what is said to a call
-  says : Step → Answer
+  says : Said → Answer
 
 -- where the line leads, and what is answered
 abbrev pub Answered : Type 0
@@ -112,21 +110,17 @@ calls t x = (
       (due_to t.opening t.at x),
 )
 
--- the entries as drops and flags; a missing entry's drop is not looked at
-abbrev pub reply_of : List Entry → Call
-reply_of es = reply (map drop_or0 es) (map is_missing es)
-
 -- the line is read in its number and place
 unfoldable pub answer_to : Conversation → Form → Answered
 answer_to t malformed = malformed_line t
 answer_to t (entered mv bc) = collected t Shots (empty_request (record { mv = mv; bc = bc }))
 answer_to t (shot range drop sigma) = in_place (takes_shot t.section) t
-    (collected t Shots (with_shot t.request (record { range = range; drop = drop; sigma = sigma })))
+    (collected t Shots (with_shot t.request (record { range_yd = range; drop = drop; sigma = sigma })))
 answer_to t (prior_speed mean sigma) = in_place (takes_shot t.section) t (collected t Priors (with_speed t.request (normal mean sigma)))
 answer_to t (prior_coefficient mean sigma) = in_place (takes_coefficient t.section) t (collected t Distances (with_coefficient t.request (normal mean sigma)))
 answer_to t (distance range sigma) = in_place (takes_distance t.section) t (collected t Distances (with_distance t.request (requested_with range sigma)))
 answer_to t open_plain = in_place (takes_distance t.section) t (opens t)
-answer_to t (drops es) = calls t (reply_of es)
+answer_to t (drops es) = calls t (reply es)
 answer_to t refused = calls t refuse_point
 answer_to t (put_in place range sigma) = calls t (change (edits.put_in place (requested_with range sigma)))
 answer_to t (take_out place) = calls t (change (edits.take_out place))
@@ -136,11 +130,16 @@ answer_to t page = (t, shown_page)
 
 -- ---- texts
 
+-- what is said, with the report that stands then
+abbrev pub said_text : Said → Option Report → Text
+said_text (Said.question mv bc list) shown = question_text list mv bc
+said_text Said.report shown = standing_text shown
+said_text (Said.refusal number position) shown = declined_text number position
+
 -- how many lines the page has, and these
 abbrev pub page_answer : Option Report → Text
 page_answer shown = line (page_count_text (length (lines_in shown))) ++ page_in shown
 
--- what is said comes with the report that stands then
 abbrev pub answer_text : Conversation → Answer → Text
 answer_text t nothing = []
 answer_text t (malformed_at n) = line (malformed_text n)

@@ -1,5 +1,5 @@
 -- How the code's conversation stands for the definition's.
-use Rattle.std.specs.Prelude.{ℕ, ◌≡◌, [], ◌++◌, ◌⊎◌, length, drop}
+use Rattle.std.specs.Prelude.{ℕ, ◌≡◌, [], ◌++◌, ◌⊎◌, length, drop, Option, None, Some}
 use Rattle.definition.specs.Request.{Opening}
 use Rattle.definition.specs.Run.{refuse}
 use Rattle.definition.specs.Whole.{whole}
@@ -10,15 +10,15 @@ use Rattle.demands.specs.Calls.{At, first}
 use Rattle.demands.specs.Standing.{Inv}
 use Rattle.report_text.specs.Writing.{Text}
 use Rattle.report_text.specs.Texts.{asked_text, malformed_text}
-use Rattle.answer_text.specs.Answers.{said_text, line}
+use Rattle.answer_text.specs.Answers.{line}
+use Rattle.conversation.specs.Conversation.{said_text}
+use Rattle.definition.specs.Session.{says_of}
 use Rattle.conversation.specs.Conversation.{Conversation, Answer, nothing, malformed_at, count, shown_page, says, Answered, next_line, answer_to, page_answer, text_of, unended_text}
 use Rattle.requests.specs.Kept.{kept, Keeps}
 use Rattle.conversation.specs.declared.Conversation.{Conversation as Held}
 use Rattle.conversation.specs.declared.Response.{Response}
 use Rattle.conversation.specs.declared.Response.TheVariants as response
-use Rattle.conversation.specs.declared.Responded.{Responded}
-use Rattle.conversation.specs.declared.Replied.{Replied}
-use Rattle.lines.specs.Reading.{form_in}
+use Rattle.lines.specs.Reading.{form_if}
 use Rattle.lines.specs.declared.Line.{Line}
 
 -- ---- the session
@@ -45,24 +45,25 @@ pub record Tracks (h : Held) (t : Conversation) : Type 0 where
 
 -- ---- what is answered
 
-abbrev pub response_says : Response → Answer
-response_says response.Nothing = nothing
-response_says (response.Malformed n) = malformed_at n
-response_says (response.Asked n) = count n
-response_says response.Page = shown_page
-response_says (response.Says step) = says step
+abbrev pub response_says : Option Response → Answer
+response_says None = nothing
+response_says (Some (response.Malformed n)) = malformed_at n
+response_says (Some (response.Asked n)) = count n
+response_says (Some response.Page) = shown_page
+response_says (Some (response.Says step)) = says (says_of step)
 
 -- by the session that the code holds
-abbrev pub response_text : Session → Response → Text
-response_text s response.Nothing = []
-response_text s (response.Malformed n) = line (malformed_text n)
-response_text s (response.Asked n) = line (asked_text n)
-response_text s response.Page = page_answer (report_in (state s))
-response_text s (response.Says step) = line (said_text step (report_in (state s)))
+abbrev pub response_text : Session → Option Response → Text
+response_text s None = []
+response_text s (Some (response.Malformed n)) = line (malformed_text n)
+response_text s (Some (response.Asked n)) = line (asked_text n)
+response_text s (Some response.Page) = page_answer (report_in (state s))
+response_text s (Some (response.Says step)) = line (said_text (says_of step) (report_in (state s)))
 
-pub record Responds (r : Responded) (a : Answered) : Type 0 where
-  pub conversation : Tracks r.conversation a.0
-  pub says : response_says r.response ≡ a.1
+-- where the line leads the code's conversation, and what the code answers
+pub record Responds (h : Held) (r : Option Response) (a : Answered) : Type 0 where
+  pub conversation : Tracks h a.0
+  pub says : response_says r ≡ a.1
 
 -- The text stands whole at the start of the buffer, whose bytes behind it are as they were; it has this many bytes.
 pub record Fills (out after : Text) (n : ℕ) (text : Text) : Type 0 where
@@ -70,9 +71,9 @@ pub record Fills (out after : Text) (n : ℕ) (text : Text) : Type 0 where
   pub counts : n ≡ length text
 
 -- a line's answer: where the conversation tracks the definition's, it does so after the line, and the answer is in the buffer
-pub record Answers (h : Held) (l : Line) (out after : Text) (r : Replied) : Type 0 where
+pub record Answers (h : Held) (l : Option Line) (out after : Text) (k : Held) (n : ℕ) : Type 0 where
   pub room : length after ≡ length out
-  pub goes : (t : Conversation) → Tracks h t → let a = answer_to (next_line t) (form_in l) in Tracks r.conversation a.0 × Fills out after r.len (text_of a)
+  pub goes : (t : Conversation) → Tracks h t → let a = answer_to (next_line t) (form_if l) in Tracks k a.0 × Fills out after n (text_of a)
 
 -- the answer to a last line without its line feed
 pub record AnswersUnended (h : Held) (out after : Text) (n : ℕ) : Type 0 where

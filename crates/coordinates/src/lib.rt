@@ -11,6 +11,7 @@ pub const MV_COORDINATE_SCALE_FPS: f64 = 100.0;
 pub const BC_COORDINATE_SCALE: f64 = 0.1;
 
 // A point within the bounds of the fit.
+#[tactic(auto, unfolding(definition::specs::Mesh::bounded_of))]
 pub fn bounded(mv: f64, bc: f64) -> Point
     ensures { result ≡ bounded_of mv bc }
 {

@@ -18,12 +18,14 @@ const MAP_OBJECTIVE_IMPROVEMENT_TOLERANCE: f64 = 1.0e-8;
 // A bound is near within this part of its range.
 const BOUND_TOLERANCE: f64 = 1.0e-6;
 
+#[tactic(auto, unfolding(crate::specs::Criteria::material_of))]
 pub fn objective_improvement_is_material(current: f64, candidate: f64) -> bool
     ensures { result ≡ material_of current candidate }
 {
     current - candidate > MAP_OBJECTIVE_IMPROVEMENT_TOLERANCE
 }
 
+#[tactic(auto, unfolding(crate::specs::Criteria::at_bound_of, crate::specs::Criteria::tolerance_of))]
 pub fn parameter_at_bound(mv: f64, bc: f64) -> bool
     ensures { result ≡ at_bound_of mv bc }
 {

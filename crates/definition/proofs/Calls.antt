@@ -1,17 +1,15 @@
 -- The contracts of the calls from where a session stands, for whatever shows it. Assumes nothing.
+use Rattle.std.specs.Prelude.{eqb, Option, Some}
 use mathlib.Core.Path.{◌≡◌, sym, subst}
 use mathlib.Core.Bool.{Bool, true, false}
 use mathlib.Core.List.{List}
-use mathlib.Core.Option.{Option, some}
 use lib.ListN.{length}
-use lib.Ieee.{Float}
-use Rattle.definition.specs.Run.{Run, ask, Reply, refused, entries, Which}
+use Rattle.definition.specs.Run.{Run, ask, Reply, refused, entries, Entry, Which}
 use Rattle.definition.specs.Summary.{Finished}
 use Rattle.definition.specs.Whole.{Edit, placed, edit}
-use Rattle.definition.specs.Session.{State, asking, standing, over, wants, entries_of, right_length, either, Seen, Declines, goes_on, entries_taken}
+use Rattle.definition.specs.Session.{State, asking, standing, over, Said, wants, either, Seen, Declines, goes_on, entries_taken}
 use Rattle.definition.specs.Session.{refusal_taken, edit_taken, Replied, PointRefused, Edited}
 use Rattle.definition.specs.declared.Point.{Point}
-use Rattle.definition.specs.declared.Step.{Step}
 
 -- no question is open
 abbrev pub Closed : State → Type 0
@@ -25,27 +23,27 @@ Unfinished over = Unit {0}
 Unfinished (standing c) = ⊥
 Unfinished (asking kept t) = Unit {0}
 
-module _ {S : Type 0} (seen : S → Seen) (s : S) (said : Step) (r : S) where
-  module _ (ds : List Float) (ms : List Bool) where
-    pub reply_closed : (x : State) → (seen s).state ≡ x → Closed x → Declines seen said r s 8 → Replied seen s ds ms said r
-    reply_closed over e c d = record { is = subst (λ (y : State). entries_taken seen y s ds ms said r) (sym e) d }
-    reply_closed (standing f) e c d = record { is = subst (λ (y : State). entries_taken seen y s ds ms said r) (sym e) d }
+module _ {S : Type 0} (seen : S → Seen) (s : S) (said : Said) (r : S) where
+  module _ (es : List Entry) where
+    pub reply_closed : (x : State) → (seen s).state ≡ x → Closed x → Declines seen said r s 8 → Replied seen s es said r
+    reply_closed over e c d = record { is = subst (λ (y : State). entries_taken seen y s es said r) (sym e) d }
+    reply_closed (standing f) e c d = record { is = subst (λ (y : State). entries_taken seen y s es said r) (sym e) d }
     reply_closed (asking kept t) e c d = absurd c
 
     module _ (kept : Option Finished) (p : Point) (w : Which) (k : Reply → Run Finished) (e : (seen s).state ≡ asking kept (ask p w k)) where
-      by_length : (b : Bool) → right_length (wants (seen s).sizes w) ds ms ≡ b
-          → either b (goes_on seen s kept (k (entries (entries_of ds ms))) said r) (Declines seen said r s 9) → Replied seen s ds ms said r
+      by_length : (b : Bool) → eqb (length es) (wants (seen s).sizes w) ≡ b
+          → either b (goes_on seen s kept (k (entries es)) said r) (Declines seen said r s 9) → Replied seen s es said r
       by_length b l d = record {
         is =
-            subst (λ (y : State). entries_taken seen y s ds ms said r) (sym e)
-            (subst (λ (x : Bool). either x (goes_on seen s kept (k (entries (entries_of ds ms))) said r) (Declines seen said r s 9)) (sym l) d);
+            subst (λ (y : State). entries_taken seen y s es said r) (sym e)
+            (subst (λ (x : Bool). either x (goes_on seen s kept (k (entries es)) said r) (Declines seen said r s 9)) (sym l) d);
       }
 
-      pub reply_wrong : right_length (wants (seen s).sizes w) ds ms ≡ false → Declines seen said r s 9 → Replied seen s ds ms said r
+      pub reply_wrong : eqb (length es) (wants (seen s).sizes w) ≡ false → Declines seen said r s 9 → Replied seen s es said r
       reply_wrong l d = by_length false l d
 
-      pub reply_taken : right_length (wants (seen s).sizes w) ds ms ≡ true → goes_on seen s kept (k (entries (entries_of ds ms))) said r
-          → Replied seen s ds ms said r
+      pub reply_taken : eqb (length es) (wants (seen s).sizes w) ≡ true → goes_on seen s kept (k (entries es)) said r
+          → Replied seen s es said r
       reply_taken l d = by_length true l d
 
   pub refusal_closed : (x : State) → (seen s).state ≡ x → Closed x → Declines seen said r s 8 → PointRefused seen s said r
@@ -64,16 +62,16 @@ module _ {S : Type 0} (seen : S → Seen) (s : S) (said : Step) (r : S) where
     edit_unfinished (asking kept t) q u d = record { is = subst (λ (y : State). edit_taken seen y s e said r) (sym q) d }
 
     module _ (c : Finished) (q : (seen s).state ≡ standing c) where
-      by_place : (b : Bool) → placed e (length c.requested) ≡ b → either b (goes_on seen s (some c) (edit c e) said r) (Declines seen said r s 15)
+      by_place : (b : Bool) → placed e (length c.requested) ≡ b → either b (goes_on seen s (Some c) (edit c e) said r) (Declines seen said r s 15)
           → Edited seen s e said r
       by_place b l d = record {
         is =
             subst (λ (y : State). edit_taken seen y s e said r) (sym q)
-            (subst (λ (x : Bool). either x (goes_on seen s (some c) (edit c e) said r) (Declines seen said r s 15)) (sym l) d);
+            (subst (λ (x : Bool). either x (goes_on seen s (Some c) (edit c e) said r) (Declines seen said r s 15)) (sym l) d);
       }
 
       pub edit_misplaced : placed e (length c.requested) ≡ false → Declines seen said r s 15 → Edited seen s e said r
       edit_misplaced l d = by_place false l d
 
-      pub edit_taken_lem : placed e (length c.requested) ≡ true → goes_on seen s (some c) (edit c e) said r → Edited seen s e said r
+      pub edit_taken_lem : placed e (length c.requested) ≡ true → goes_on seen s (Some c) (edit c e) said r → Edited seen s e said r
       edit_taken_lem l d = by_place true l d

@@ -4,7 +4,7 @@ use Rattle.definition.specs.Figures.{Figures}
 use Rattle.definition.specs.RunFigures.{RunFigures, OpeningFigures, EditFigures, ReportFigure, PollFigures, LimitFigures, CutFigure}
 use lib.Ieee.{round, neg, add, sub, mul, div, lt, eq, le, of_int, is_nan, of_bits, to_bits}
 use Rattle.root.specs.Root.{root_of}
-use Rattle.numeric.specs.Numeric.{finite, abs_of, max_of, clamp_of, scaled_of, hypot_of}
+use Rattle.numeric.specs.Numeric.{within_of, finite, abs_of, max_of, clamp_of, scaled_of, hypot_of}
 use Rattle.numeric.specs.Poll.{direction_of}
 use Rattle.matrix.specs.Matrix.{determinant_of, sum_of, entries_finite, largest_of, inverse_entries, inverse_of, column_condition_of}
 use Rattle.interval.specs.Interval.{classification_of, interval_where, interval_of}
@@ -18,7 +18,7 @@ use Rattle.definition.specs.Mesh.{bounded_of, candidate_of, unmoved_of, quartere
 use Rattle.definition.specs.Summary.{result_of, baseline_of, covariance_of, correlation_of, build_approximation_of, approximation_of, effective_count_of}
 use Rattle.definition.specs.Summary.{diagnostics_of, band_variance_of, latent_of, future_of, band_of, observed_min, observed_max, dominated_of}
 use Rattle.definition.specs.Summary.{crosses_bounds_of, warnings_of, report_of}
-use Rattle.definition.specs.Whole.{within_of, positive_of, sound_observation_of, sound_prior_of, sound_requested_of, checked_point, checked_count}
+use Rattle.definition.specs.Whole.{positive_of, sound_observation_of, sound_prior_of, sound_requested_of, checked_point, checked_count}
 use Rattle.definition.specs.Whole.{checked_measured, checked_requested, band_rows, baseline, concluded, banded, fitted, run, whole, edit_questions, edit}
 
 -- To unfold one of these is to unfold what its line names: every definition that a run is computed by.

@@ -1,8 +1,8 @@
 -- When a report has the approximation: `presence`. Assumes nothing.
+use Rattle.std.specs.Prelude.{Option, None, Some}
 use Prim.Native.Nat.{ℕ}
 use mathlib.Core.Path.{◌≡◌, refl}
 use mathlib.Core.Bool.{Bool, true, false, cond}
-use mathlib.Core.Option.{Option, none, some}
 use native.Mathlib.Omega.{arith}
 use lib.Ieee.{Float}
 use Rattle.numeric.specs.Numeric.{finite}
@@ -26,9 +26,9 @@ module _ (verified : Bool) (p : Point) (s : Symmetric2) (v : verified ≡ true) 
   there_is : (q : Symmetric2) (k : Float) → inverse_of s ≡ inverse q k → (mv bc : Option GaussianIntervalV1)
       → interval95 p.mv (covariance_of q).mv_variance_fps2 ≡ mv → interval95 p.bc (covariance_of q).bc_variance ≡ bc
       → IsAvailable (with_intervals q k mv bc) → Exist verified p s
-  there_is q k i none bc e f h = withheld _ h
-  there_is q k i (some mv) none e f h = withheld _ h
-  there_is q k i (some mv) (some bc) e f h = go (finite (correlation_of (covariance_of q))) refl _ _ h
+  there_is q k i None bc e f h = withheld _ h
+  there_is q k i (Some mv) None e f h = withheld _ h
+  there_is q k i (Some mv) (Some bc) e f h = go (finite (correlation_of (covariance_of q))) refl _ _ h
     where
       go : (b : Bool) → finite (correlation_of (covariance_of q)) ≡ b → (a : Approximation) (code : TruingApproximationFailureCodeV1)
           → IsAvailable (cond b a (unavailable code)) → Exist verified p s

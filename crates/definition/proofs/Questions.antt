@@ -10,7 +10,7 @@ use native.Mathlib.Omega.{arith}
 use lib.Dec.{leb, ltb}
 use lib.ListN.{length}
 use lib.Ieee.{Float}
-use Rattle.numeric.specs.Numeric.{finite}
+use Rattle.numeric.specs.Numeric.{within_of, finite}
 use Rattle.criteria.specs.Criteria.{mv_min, mv_max, bc_min, bc_max, material_of}
 use Rattle.definition.specs.Lists.{first_at}
 use Rattle.definition.specs.Laws.{Asks, finishes, stops, asks, put, Count, CountWithoutDistances, CountOfEdit, EmptyList}
@@ -23,7 +23,7 @@ use Rattle.definition.specs.Mesh.{Poll, Pass, PollStep, evaluates, ended, poll_s
 use Rattle.definition.specs.Fit.{Fit, Trial, accepted, exhausted, Step, unfit, to, step_of, flat_of, on_step, trials, meshed, verified, verify, on_trial}
 use Rattle.definition.specs.Fit.{evaluated, iterate, fit_map}
 use Rattle.definition.specs.Summary.{Finished}
-use Rattle.definition.specs.Whole.{within_of, faulty_observation, sound_prior_of, sound_requested_of, faulty_requested, checked_point, checked_count}
+use Rattle.definition.specs.Whole.{faulty_observation, sound_prior_of, sound_requested_of, faulty_requested, checked_point, checked_count}
 use Rattle.definition.specs.Whole.{checked_measured, checked_requested}
 use Rattle.definition.specs.Whole.{band_rows, baseline, concluded, banded, fitted, run, whole, Edit, put_in, take_out, exchange, unless_missing}
 use Rattle.definition.specs.Whole.{edit_questions, edit}
@@ -260,20 +260,20 @@ count_without_distances m rs = asks_put {Q = λ p w. Unit {0}} rs (asks_run (λ 
 
 -- the property, for questions about the edit's new distance
 abbrev pub OfNew : (Point → Which → Type 0) → Edit → Type 0
-OfNew Q (put_in i d) = (p : Point) → Q p (new d.range)
+OfNew Q (put_in i d) = (p : Point) → Q p (new d.range_yd)
 OfNew Q (take_out i) = Unit {0}
-OfNew Q (exchange i d) = (p : Point) → Q p (new d.range)
+OfNew Q (exchange i d) = (p : Point) → Q p (new d.range_yd)
 
 pub every_new : (Q : Point → Which → Type 0) → ((p : Point) (x : Float) → Q p (new x)) → (e : Edit) → OfNew Q e
-every_new Q h (put_in i d) = λ p. h p d.range
+every_new Q h (put_in i d) = λ p. h p d.range_yd
 every_new Q h (take_out i) = tt
-every_new Q h (exchange i d) = λ p. h p d.range
+every_new Q h (exchange i d) = λ p. h p d.range_yd
 
 module _ {Q : Point → Which → Type 0} where
-  asks_asked : (c : Finished) (e : Edit) (place : ℕ) (d : Requested) → ((p : Point) → Q p (new d.range)) → Asks Q 5 (edit_questions c e place d)
+  asks_asked : (c : Finished) (e : Edit) (place : ℕ) (d : Requested) → ((p : Point) → Q p (new d.range_yd)) → Asks Q 5 (edit_questions c e place d)
   unfolding edit_questions
   asks_asked c e place d h =
-      asks_bind {n = 0} (asks_rows (new d.range) h c.fit.point) (λ one. asks_after (asks_missing one.gap place) (λ u. finishes))
+      asks_bind {n = 0} (asks_rows (new d.range_yd) h c.fit.point) (λ one. asks_after (asks_missing one.gap place) (λ u. finishes))
 
   pub asks_edit : (c : Finished) (e : Edit) → OfNew Q e → Asks Q 5 (edit c e)
   unfolding edit

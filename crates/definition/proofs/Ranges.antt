@@ -1,7 +1,7 @@
 -- Ranges of a report's numbers: `correlation_range`, `effective_count_range`. Assumes nothing.
+use Rattle.std.specs.Prelude.{Option, None, Some}
 use mathlib.Core.Path.{◌≡◌, refl, subst}
 use mathlib.Core.Bool.{Bool, true, false, cond, not}
-use mathlib.Core.Option.{Option, none, some}
 use mathlib.Core.Logic.{◌⊎◌}
 use lib.Ieee.{Float, nan, inf, fin, neg, le, is_nan, of_bits}
 use Rattle.numeric.specs.Numeric.{zero64, one64, two64, finite}
@@ -37,9 +37,9 @@ sound_if true a c h k = h refl
 sound_if false a c h k = k refl
 
 intervals_sound : (q : Symmetric2) (condition : Float) (mv bc : Option GaussianIntervalV1) → Sound (with_intervals q condition mv bc)
-intervals_sound q condition none bc = tt
-intervals_sound q condition (some mv) none = tt
-intervals_sound q condition (some mv) (some bc) =
+intervals_sound q condition None bc = tt
+intervals_sound q condition (Some mv) None = tt
+intervals_sound q condition (Some mv) (Some bc) =
     let r = correlation_of (covariance_of q) in
     sound_if (finite r) _ _ (λ h. clamp_between r (neg one64) one64 (finite_number r h) ends_in_order) (λ h. tt)
 
@@ -65,8 +65,8 @@ unfolding le of_bits
 zero_below_two = refl
 
 abbrev SoundCount : Option Float → Type 0
-SoundCount none = Unit {0}
-SoundCount (some x) = (x ≡ nan) ⊎ Between zero64 two64 x
+SoundCount None = Unit {0}
+SoundCount (Some x) = (x ≡ nan) ⊎ Between zero64 two64 x
 
 count_sound : (d : Symmetric2) (a : Approximation) → SoundCount (effective_count d a)
 unfolding effective_count_of

@@ -1,7 +1,6 @@
 -- S24's bench figures of single definitions, and some more. `Figures` is the table; its one proof, by computation, is
 -- proofs/Figures.antt. A double is written as the nearest to a fraction. Whole runs are in RunFigures.antt.
-use Rattle.std.specs.Prelude.{ℕ, ◌^◌, ◌-◌, Bool, true, false, not, ◌&&◌, List, [], ◌∷◌, T, eqb, Float}
-use Rattle.std.proofs.Math.Option.{Option, none, some}
+use Rattle.std.specs.Prelude.{ℕ, ◌^◌, ◌-◌, Bool, true, false, not, ◌&&◌, List, [], ◌∷◌, T, eqb, Float, Option, None, Some}
 use Rattle.std.specs.Float.{inf, binary64}
 use Rattle.std.specs.Float.Ieee.{round, neg, to_bits}
 use Rattle.root.specs.Root.{root_of}
@@ -15,8 +14,7 @@ use Rattle.definition.specs.Likelihood.{chi_square_of, objective_of}
 use Rattle.definition.specs.Summary.{interval95, is_outside}
 use Rattle.definition.specs.declared.Point.{Point}
 use Rattle.definition.specs.declared.TruingPriorsV1.{TruingPriorsV1}
-use Rattle.definition.specs.declared.Prior.{Prior}
-use Rattle.definition.specs.declared.Prior.TheVariants.{Absent, Normal}
+use Rattle.definition.specs.declared.NormalPriorV1.{NormalPriorV1}
 
 -- ---- doubles and small records
 
@@ -37,23 +35,23 @@ abbrev pub point : Float → Float → Point
 point mv bc = record { mv = mv; bc = bc }
 
 abbrev pub observed : ℕ → Float → Float → Observation
-observed range d sigma = record { range = number range; drop = d; sigma = sigma }
+observed range d sigma = record { range_yd = number range; drop = d; sigma = sigma }
 
-abbrev pub normal : Float → Float → Prior
-normal mean sigma = Normal (record { mean = mean; sigma = sigma })
+abbrev pub normal : Float → Float → Option NormalPriorV1
+normal mean sigma = Some (record { mean = mean; sigma = sigma })
 
-abbrev pub priors : Prior → Prior → TruingPriorsV1
+abbrev pub priors : Option NormalPriorV1 → Option NormalPriorV1 → TruingPriorsV1
 priors mv bc = record { muzzle_velocity_fps = mv; ballistic_coefficient = bc }
 
 abbrev pub measured : Float → Float → List Observation → TruingPriorsV1 → Measured
 measured mv bc obs q = record { entered = point mv bc; observations = obs; priors = q }
 
 abbrev pub requested : ℕ → Requested
-requested range = record { range = number range; sigma = none }
+requested range = record { range_yd = number range; future_observation_sigma = None }
 
 abbrev pub deviation : Option GaussianIntervalV1 → Option Float
-deviation none = none
-deviation (some g) = some g.standard_deviation
+deviation None = None
+deviation (Some g) = Some g.standard_deviation
 
 -- distances 100 and 200
 abbrev pub first_two : List Observation
@@ -74,10 +72,10 @@ x is y = eqb (to_bits binary64 x) (to_bits binary64 y)
 
 module _ {A : Type 0} (same : A → A → Bool) where
   abbrev pub same_option : Option A → Option A → Bool
-  same_option none none = true
-  same_option none (some b) = false
-  same_option (some a) none = false
-  same_option (some a) (some b) = same a b
+  same_option None None = true
+  same_option None (Some b) = false
+  same_option (Some a) None = false
+  same_option (Some a) (Some b) = same a b
 
   abbrev pub same_list : List A → List A → Bool
   same_list [] [] = true
@@ -119,7 +117,7 @@ pub record Figures : Type 0 where
   -- drops 10, 20, sigmas 2, 1, replies 14, 19; then with prior mean 2000, sigma 50 at 2100
   pub sum_5 : T (chi_square_of ten_twenty (number 14 ∷ number 19 ∷ []) is number 5)
   pub sum_9 :
-      T (objective_of (measured (number 2000) (ratio 3 10) ten_twenty (priors (normal (number 2000) (number 50)) Absent)) (point (number 2100) (ratio 3 10))
+      T (objective_of (measured (number 2000) (ratio 3 10) ten_twenty (priors (normal (number 2000) (number 50)) None)) (point (number 2100) (ratio 3 10))
       (number 14 ∷ number 19 ∷ [])
       is number 9)
   -- one sum: 2 and 2^-52 and 2^-52 is 2, where 2 and a penalty of 2^-51 would be more
@@ -128,9 +126,9 @@ pub record Figures : Type 0 where
       (point (number 2000) (number 1)) (number 1 ∷ number 1 ∷ [])
       is number 2)
   -- variances 4, −0 and −1
-  pub deviation_2 : T (same_option ◌is◌ (deviation (interval95 (number 10) (number 4))) (some (number 2)))
-  pub deviation_minus_0 : T (same_option ◌is◌ (deviation (interval95 (number 10) minus_zero)) (some minus_zero))
-  pub deviation_none : T (same_option ◌is◌ (deviation (interval95 (number 10) (neg (number 1)))) none)
+  pub deviation_2 : T (same_option ◌is◌ (deviation (interval95 (number 10) (number 4))) (Some (number 2)))
+  pub deviation_minus_0 : T (same_option ◌is◌ (deviation (interval95 (number 10) minus_zero)) (Some minus_zero))
+  pub deviation_none : T (same_option ◌is◌ (deviation (interval95 (number 10) (neg (number 1)))) None)
   -- the root of 2^-1074
   pub root_least : T (root_of (ratio 1 (2 ^ 1074)) is ratio 1 (2 ^ 537))
   -- 1000.003 is near the bound, 1000.005 is not

@@ -2,8 +2,7 @@
 -- Polls.antt, Fits.antt, Warnings.antt, Ranges.antt, Presence.antt. That the fit, the evaluation at the fit and the baseline do not see the requested distances
 -- needs no theorem: `fit_map`, `evaluate` and `baseline` take no list of them (Fit.antt, Likelihood.antt, Whole.antt), and `run` hands `fit_map` the `Measured`
 -- alone.
-use Rattle.std.specs.Prelude.{ℕ, zero, suc, ◌+◌, ◌≤◌, ◌≡◌, Bool, true, false, List, [], ◌∷◌, ◌⊎◌, ◌↔◌, eqb, Float}
-use Rattle.std.proofs.Math.Option.{some}
+use Rattle.std.specs.Prelude.{ℕ, zero, suc, ◌+◌, ◌≤◌, ◌≡◌, Bool, true, false, List, [], ◌∷◌, ◌⊎◌, ◌↔◌, eqb, Float, Some}
 use Rattle.std.specs.Float.{nan}
 use Rattle.std.specs.Float.Ieee.{neg, le}
 use Rattle.numeric.specs.Numeric.{zero64, one64, two64, finite}
@@ -168,7 +167,7 @@ CorrelationRange =
 -- Theorem `effective_count_range`: where a report has the effective count, it lies in 0..2 or is a not-a-number.
 abbrev pub EffectiveCountRange : Type 0
 EffectiveCountRange =
-    (c : Finished) (count : Float) → (report_of c).diagnostics.effective_parameter_count ≡ some count
+    (c : Finished) (count : Float) → (report_of c).diagnostics.effective_parameter_count ≡ Some count
     → (count ≡ nan) ⊎ Between zero64 two64 count
 
 -- ---- presence
@@ -184,9 +183,9 @@ pub record Exist (verified : Bool) (p : Point) (information : Symmetric2) : Type
   pub condition : Float
   pub inverted : inverse_of information ≡ inverse covariance condition
   pub mv_interval : GaussianIntervalV1
-  pub mv_exists : interval95 p.mv (covariance_of covariance).mv_variance_fps2 ≡ some mv_interval
+  pub mv_exists : interval95 p.mv (covariance_of covariance).mv_variance_fps2 ≡ Some mv_interval
   pub bc_interval : GaussianIntervalV1
-  pub bc_exists : interval95 p.bc (covariance_of covariance).bc_variance ≡ some bc_interval
+  pub bc_exists : interval95 p.bc (covariance_of covariance).bc_variance ≡ Some bc_interval
   pub correlated : finite (correlation_of (covariance_of covariance)) ≡ true
 
 -- Theorem `presence`: the approximation, with its covariance, both intervals and correlation, is available if and only if these exist.

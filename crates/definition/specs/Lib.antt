@@ -1,5 +1,7 @@
 pub mod Constants
 pub mod Lists
+pub mod Refusals
+pub mod Conversions
 pub mod Request
 pub mod Run
 pub mod Likelihood

@@ -1,5 +1,5 @@
 -- `objective`, `truing_jacobian_rows`, `evaluate`.
-use Rattle.std.specs.Prelude.{ℕ, cond, List, Float}
+use Rattle.std.specs.Prelude.{ℕ, cond, List, Float, Option, None, Some}
 use Rattle.std.specs.Float.Ieee.{lt}
 use Rattle.root.specs.Root.{root_of}
 use Rattle.numeric.specs.Numeric.{zero64, two64, finite, max_of}
@@ -11,8 +11,7 @@ use Rattle.definition.specs.Request.{Observation, Measured}
 use Rattle.definition.specs.Run.{Run, done, ◌>>=◌, ◌>>◌, Which, shots, Reading, read, unless, require}
 use Rattle.definition.specs.declared.Point.{Point}
 use Rattle.definition.specs.declared.TruingPriorsV1.{TruingPriorsV1}
-use Rattle.definition.specs.declared.Prior.{Prior}
-use Rattle.definition.specs.declared.Prior.TheVariants.{Absent, Normal}
+use Rattle.definition.specs.declared.NormalPriorV1.{NormalPriorV1}
 use Rattle.definition.specs.declared.Row.{Row}
 use Rattle.definition.specs.declared.Sums.{Sums}
 use Rattle.definition.specs.declared.Evaluation.{Evaluation}
@@ -31,9 +30,9 @@ unfoldable pub chi_square_of : List Observation → List Float → Float
 chi_square_of obs drops = fold_pairs with_shot zero64 obs drops
 
 -- a sum with the prior's squared standardized distance added, where there is a prior
-unfoldable pub with_prior_of : Prior → Float → Float → Float
-with_prior_of Absent x s = s
-with_prior_of (Normal q) x s = s ⊕ squared (standardized x q.mean q.sigma)
+unfoldable pub with_prior_of : Option NormalPriorV1 → Float → Float → Float
+with_prior_of None x s = s
+with_prior_of (Some q) x s = s ⊕ squared (standardized x q.mean q.sigma)
 
 -- speed first
 unfoldable pub with_priors_of : TruingPriorsV1 → Point → Float → Float
@@ -153,13 +152,13 @@ unfoldable pub sums_of : Point → List Observation → List Row → Sums
 sums_of p obs rows = fold_pairs (with_row p) no_sums obs rows
 
 -- what a prior adds to a diagonal entry of the information, and to its entry of the gradient; j is the coordinate's scale over the prior's sigma
-unfoldable pub prior_information_of : Prior → Float → Float
-prior_information_of Absent scale = zero64
-prior_information_of (Normal q) scale = let j = scale ⊘ q.sigma in zero64 ⊕ j ⊗ j
+unfoldable pub prior_information_of : Option NormalPriorV1 → Float → Float
+prior_information_of None scale = zero64
+prior_information_of (Some q) scale = let j = scale ⊘ q.sigma in zero64 ⊕ j ⊗ j
 
-unfoldable pub with_prior_gradient_of : Prior → Float → Float → Float → Float
-with_prior_gradient_of Absent scale x g = g
-with_prior_gradient_of (Normal q) scale x g = g ⊕ (scale ⊘ q.sigma) ⊗ standardized x q.mean q.sigma
+unfoldable pub with_prior_gradient_of : Option NormalPriorV1 → Float → Float → Float → Float
+with_prior_gradient_of None scale x g = g
+with_prior_gradient_of (Some q) scale x g = g ⊕ (scale ⊘ q.sigma) ⊗ standardized x q.mean q.sigma
 
 -- the fractional sensitivity of the coefficient over that of the speed; 0 where that of the speed is not above 0
 unfoldable pub sensitivity_ratio_of : Float → Float → Float

@@ -1,13 +1,12 @@
 -- A run: a tree of questions, each a point and a list of distances, that ends in a value or in a refusal.
-use Rattle.std.specs.Prelude.{ℕ, zero, suc, Bool, true, false, List, map, Float}
+use Rattle.std.specs.Prelude.{ℕ, zero, suc, Bool, true, false, List, map, Float, Option, None, Some}
 use Rattle.numeric.specs.Numeric.{zero64}
 use Rattle.definition.specs.Lists.{first_at}
 use Rattle.definition.specs.declared.Point.{Point}
 
--- an entry of a reply
-pub data Entry : Type 0 where
-  missing : Entry
-  drop : Float → Entry
+-- an entry of a reply: a drop, or none where it is missing
+abbrev pub Entry : Type 0
+Entry = Option Float
 
 -- the host's reply: a refusal of the point, or an entry for each distance
 pub data Reply : Type 0 where
@@ -51,13 +50,13 @@ unless zero n = done tt
 unless (suc i) n = refuse n (suc i)
 
 abbrev pub is_missing : Entry → Bool
-is_missing missing = true
-is_missing (drop x) = false
+is_missing None = true
+is_missing (Some x) = false
 
 -- 0 in place of a missing drop: the gap is judged before it could be read
 abbrev pub drop_or0 : Entry → Float
-drop_or0 missing = zero64
-drop_or0 (drop x) = x
+drop_or0 None = zero64
+drop_or0 (Some x) = x
 
 -- the drops of a reply, and the position of the first that is missing, 0 where none is
 pub record Reading : Type 0 where

@@ -1,15 +1,14 @@
 -- Whole runs, told by how many questions they put and what they end in: S24's, and more that tell the definition from near misses of it. The tables
 -- `RunFigures`, `OpeningFigures`, `EditFigures`, `ReportFigure`, `PollFigures`, `LimitFigures` and `CutFigure` have one proof each, by computation, in
 -- proofs/Figures.antt.
-use Rattle.std.specs.Prelude.{ℕ, zero, suc, ◌^◌, ◌*◌, Bool, true, false, cond, ◌&&◌, ◌||◌, List, [], ◌∷◌, T, eqb, Float}
+use Rattle.std.specs.Prelude.{ℕ, zero, suc, ◌^◌, ◌*◌, Bool, true, false, cond, ◌&&◌, ◌||◌, List, [], ◌∷◌, T, eqb, Float, Option, None, Some}
 use Rattle.std.specs.Bool.{beq}
-use Rattle.std.proofs.Math.Option.{Option, none, some}
 use Rattle.std.specs.Float.{nan, inf, binary64}
 use Rattle.std.specs.Float.Ieee.{is_nan, lt, eq, of_bits}
 use Rattle.numeric.specs.Numeric.{zero64, max_of}
 use Rattle.definition.specs.Constants.{◌⊕◌, ◌⊖◌, ◌⊗◌}
 use Rattle.definition.specs.Request.{Observation, Requested, Measured, Opening}
-use Rattle.definition.specs.Run.{Run, done, refuse, ask, bind, Entry, missing, drop, Reply, refused, entries, Which, shots, distances, new}
+use Rattle.definition.specs.Run.{Run, done, refuse, ask, bind, Entry, Reply, refused, entries, Which, shots, distances, new}
 use Rattle.definition.specs.Mesh.{Poll, poll, first_pass}
 use Rattle.definition.specs.Summary.{converged, Approximation, available, unavailable, Band, Baseline, Report, report_of}
 use Rattle.definition.specs.Whole.{whole, Edit, put_in, take_out, exchange, edit}
@@ -18,8 +17,7 @@ use Rattle.interval.specs.declared.GaussianIntervalV1.{GaussianIntervalV1}
 use Rattle.definition.specs.declared.Point.{Point}
 use Rattle.definition.specs.declared.WeightedTruingObservationResultV1.{WeightedTruingObservationResultV1}
 use Rattle.definition.specs.declared.TruingPriorsV1.{TruingPriorsV1}
-use Rattle.definition.specs.declared.Prior.{Prior}
-use Rattle.definition.specs.declared.Prior.TheVariants.{Absent}
+use Rattle.definition.specs.declared.NormalPriorV1.{NormalPriorV1}
 use Rattle.definition.specs.declared.TruingApproximationFailureCodeV1.{TruingApproximationFailureCodeV1}
 use Rattle.definition.specs.declared.TruingApproximationFailureCodeV1.TheVariants as Failure
 use Rattle.definition.specs.declared.TruingUncertaintyWarningCodeV1.{TruingUncertaintyWarningCodeV1}
@@ -29,7 +27,7 @@ use Rattle.definition.specs.Figures.{same_point, same_option, same_list}
 
 -- an opening without priors
 abbrev pub opening : Float → Float → List Observation → List Requested → Opening
-opening mv bc obs ds = record { measured = measured mv bc obs (priors Absent Absent); requested = ds }
+opening mv bc obs ds = record { measured = measured mv bc obs (priors None None); requested = ds }
 
 abbrev pub failure_index : TruingApproximationFailureCodeV1 → ℕ
 failure_index Failure.OptimizerDidNotConverge = 0
@@ -80,8 +78,8 @@ pub record Brief : Type 0 where
   pub warnings : List TruingUncertaintyWarningCodeV1
 
 abbrev pub reason_of : Approximation → Option TruingApproximationFailureCodeV1
-reason_of (available g q) = none
-reason_of (unavailable code) = some code
+reason_of (available g q) = None
+reason_of (unavailable code) = Some code
 
 abbrev pub brief : Report → Brief
 brief r = record {
@@ -122,8 +120,8 @@ same_freedom a b =
     && (same_option ◌is◌ a.reduced b.reduced && same_list same_warning a.warnings b.warnings))
 
 abbrev pub chi_of : Option Baseline → Option Float
-chi_of none = none
-chi_of (some b) = some b.chi_square
+chi_of None = None
+chi_of (Some b) = Some b.chi_square
 
 abbrev pub baseline_chi : Report → Option Float
 baseline_chi r = chi_of r.baseline
@@ -131,7 +129,7 @@ baseline_chi r = chi_of r.baseline
 -- ---- hosts and openings
 
 abbrev pub both : Float → Float → Reply
-both x y = entries (drop x ∷ drop y ∷ [])
+both x y = entries (Some x ∷ Some y ∷ [])
 
 -- drops 10 and 11, and every reply 10
 abbrev pub bench : Float → Opening
@@ -202,16 +200,16 @@ once_rejected n p w = cond (eqb n 6) (both (number 100) (number 100)) (linear n 
 
 -- the first observation follows the speed, the second the coefficient, the third neither
 abbrev pub by_mv : Point → Entry
-by_mv p = drop (number 10 ⊕ (p.mv ⊖ number 2000))
+by_mv p = Some (number 10 ⊕ (p.mv ⊖ number 2000))
 
 abbrev pub by_bc : Point → Entry
-by_bc p = drop (cond (lt (ratio 3 10) p.bc) (number 23) (cond (lt p.bc (ratio 3 10)) (number 17) (number 20)))
+by_bc p = Some (cond (lt (ratio 3 10) p.bc) (number 23) (cond (lt p.bc (ratio 3 10)) (number 17) (number 20)))
 
 abbrev pub two_of : Script
 two_of n p w = entries (by_mv p ∷ by_bc p ∷ [])
 
 abbrev pub three_at : Which → Point → List Entry
-three_at shots p = by_mv p ∷ by_bc p ∷ drop (number 32) ∷ []
+three_at shots p = by_mv p ∷ by_bc p ∷ Some (number 32) ∷ []
 three_at distances p = by_mv p ∷ []
 three_at (new d) p = by_mv p ∷ []
 
@@ -230,11 +228,11 @@ tens_but k other n p w = cond (eqb n k) other (tens n p w)
 
 -- a gap in the nominal reply of the five, then a refused point
 abbrev pub gap_then_refused : Script
-gap_then_refused n p w = cond (eqb n 1) (entries (missing ∷ drop (number 10) ∷ [])) (cond (eqb n 2) refused (tens n p w))
+gap_then_refused n p w = cond (eqb n 1) (entries (None ∷ Some (number 10) ∷ [])) (cond (eqb n 2) refused (tens n p w))
 
 -- gaps at position 2 and, in a later question of the five, at position 1
 abbrev pub two_gaps : Script
-two_gaps n p w = cond (eqb n 2) (entries (drop (number 10) ∷ missing ∷ [])) (cond (eqb n 3) (entries (missing ∷ drop (number 10) ∷ [])) (tens n p w))
+two_gaps n p w = cond (eqb n 2) (entries (Some (number 10) ∷ None ∷ [])) (cond (eqb n 3) (entries (None ∷ Some (number 10) ∷ [])) (tens n p w))
 
 -- everywhere 1 but beside the nominal speed, so little that the determinant is unfit at first
 abbrev pub unfit_at_first : Script
@@ -271,49 +269,49 @@ low_freedom = Warning.LowEffectiveDegreesOfFreedom ∷ []
 
 pub record RunFigures : Type 0 where
   -- every reply 10: one iteration, 12 questions, rank deficient; entered at the bound instead
-  pub bench_2000 : T (runs tens (bench (number 2000)) (reported 12 (flat_at nominal 1 (some Failure.RankDeficientInformation) weak_ill_unavailable)))
+  pub bench_2000 : T (runs tens (bench (number 2000)) (reported 12 (flat_at nominal 1 (Some Failure.RankDeficientInformation) weak_ill_unavailable)))
   pub bench_1000 :
-      T (runs tens (bench (number 1000)) (reported 12 (flat_at (point (number 1000) (ratio 3 10)) 1 (some Failure.MapAtParameterBound) weak_ill_unavailable)))
+      T (runs tens (bench (number 1000)) (reported 12 (flat_at (point (number 1000) (ratio 3 10)) 1 (Some Failure.MapAtParameterBound) weak_ill_unavailable)))
   -- the speed's slope is a not-a-number: flat by max, then not finite
-  pub slope_not_a_number : T (runs infinite_beside (bench (number 2000)) (reported 12 (flat_at nominal 1 (some Failure.NonFiniteInformation) weak_ill_unavailable)))
+  pub slope_not_a_number : T (runs infinite_beside (bench (number 2000)) (reported 12 (flat_at nominal 1 (Some Failure.NonFiniteInformation) weak_ill_unavailable)))
   -- three observations, effective count 2: one degree of freedom, warned, reduced value given; two: none given
   pub freedom_1 :
       T (frees three_of (entered all_three []) (reported 12 (record {
-        count = some (number 2);
-        degrees = some (number 1);
-        reduced = some
+        count = Some (number 2);
+        degrees = Some (number 1);
+        reduced = Some
             (number 4);
         warnings = low_freedom;
       })))
   pub freedom_0 :
-      T (frees two_of (entered first_two []) (reported 12 (record { count = some (number 2); degrees = some zero64; reduced = none; warnings = low_freedom })))
+      T (frees two_of (entered first_two []) (reported 12 (record { count = Some (number 2); degrees = Some zero64; reduced = None; warnings = low_freedom })))
   -- a distance puts five questions more, and is warned of only where it is outside, after the others
-  pub distance_nearest : T (runs three_of (entered all_three (requested 100 ∷ [])) (reported 17 (flat_at nominal 1 none low_freedom)))
+  pub distance_nearest : T (runs three_of (entered all_three (requested 100 ∷ [])) (reported 17 (flat_at nominal 1 None low_freedom)))
   pub distance_nearer :
       T (runs three_of (entered all_three (requested 99 ∷ []))
-      (reported 17 (flat_at nominal 1 none (Warning.LowEffectiveDegreesOfFreedom ∷ Warning.PredictionOutsideObservedDomain ∷ []))))
+      (reported 17 (flat_at nominal 1 None (Warning.LowEffectiveDegreesOfFreedom ∷ Warning.PredictionOutsideObservedDomain ∷ []))))
   -- a fit that is a not-a-number counts as converged
   pub fit_not_a_number :
       T (runs overflowing (zeros (number 2000) (ratio 3 10)) (reported 18
-      (flat_at (point nan nan) 2 (some Failure.RankDeficientInformation) weak_ill_unavailable)))
+      (flat_at (point nan nan) 2 (Some Failure.RankDeficientInformation) weak_ill_unavailable)))
   -- two steps, the second with the lowered damping; then with the first candidate rejected, and so with the raised damping
   pub two_steps : T (runs linear fine (reported 24 (flat_at (point (of_bits binary64 0x40a3_9fff_ffff_fdaa)
-      (of_bits binary64 0x3fe4_0000_0000_0256)) 3 none low_freedom)))
+      (of_bits binary64 0x3fe4_0000_0000_0256)) 3 None low_freedom)))
   pub once_rejected_lem :
       T (runs once_rejected fine (reported 25 (flat_at (point (of_bits binary64 0x40a3_9fff_ffff_da9e)
-      (of_bits binary64 0x3fe4_0000_0000_2562)) 3 none low_freedom)))
+      (of_bits binary64 0x3fe4_0000_0000_2562)) 3 None low_freedom)))
   -- a gap is judged after the five, so that a refused point comes first
   pub refused_before_gap : T (runs gap_then_refused (bench (number 2000)) (declined 3 10 0))
   -- the position of a gap is the least over the five
   pub least_gap : T (runs two_gaps (bench (number 2000)) (declined 6 11 1))
   -- in the objective's one reply a gap is judged before the sum
-  pub gap_before_sum : T (runs (tens_but 0 (entries (drop (inf false) ∷ missing ∷ []))) (bench (number 2000)) (declined 1 11 2))
+  pub gap_before_sum : T (runs (tens_but 0 (entries (Some (inf false) ∷ None ∷ []))) (bench (number 2000)) (declined 1 11 2))
   pub sum_not_finite : T (runs (tens_but 0 (both (inf false) (number 10))) (bench (number 2000)) (declined 1 12 0))
   -- the baseline's chi-square; none where its reply is refused, has a gap, or has a sum that is not finite
-  pub baseline_there : T (baselines tens (bench (number 2000)) (reported 12 (some (number 1))))
-  pub baseline_refused : T (baselines (tens_but 11 refused) (bench (number 2000)) (reported 12 none))
-  pub baseline_gap : T (baselines (tens_but 11 (entries (missing ∷ drop (number 10) ∷ []))) (bench (number 2000)) (reported 12 none))
-  pub baseline_not_finite : T (baselines (tens_but 11 (both (inf false) (number 10))) (bench (number 2000)) (reported 12 none))
+  pub baseline_there : T (baselines tens (bench (number 2000)) (reported 12 (Some (number 1))))
+  pub baseline_refused : T (baselines (tens_but 11 refused) (bench (number 2000)) (reported 12 None))
+  pub baseline_gap : T (baselines (tens_but 11 (entries (None ∷ Some (number 10) ∷ []))) (bench (number 2000)) (reported 12 None))
+  pub baseline_not_finite : T (baselines (tens_but 11 (both (inf false) (number 10))) (bench (number 2000)) (reported 12 None))
 
 -- ---- what an opening is refused for, in order
 
@@ -326,9 +324,9 @@ abbrev pub declines : Measured → List Requested → ℕ → ℕ → Bool
 declines m ds n i = same_told same_brief (tell brief tens (record { measured = m; requested = ds })) (declined 0 n i)
 
 abbrev pub no_priors : TruingPriorsV1
-no_priors = priors Absent Absent
+no_priors = priors None None
 
-abbrev pub bad_prior : Prior
+abbrev pub bad_prior : Option NormalPriorV1
 bad_prior = normal (number 6000) zero64
 
 abbrev pub bad : Observation
@@ -345,7 +343,7 @@ pub record OpeningFigures : Type 0 where
   pub refusal_3 : T (declines (measured (number 2000) (ratio 3 10) (copies 65 bad []) (priors bad_prior bad_prior)) [] 3 0)
   pub refusal_4 : T (declines (measured (number 2000) (ratio 3 10) (good ∷ bad ∷ bad ∷ []) (priors bad_prior bad_prior)) [] 4 2)
   pub refusal_5_1 : T (declines (measured (number 2000) (ratio 3 10) (good ∷ good ∷ []) (priors bad_prior bad_prior)) (copies 65 (requested 0) []) 5 1)
-  pub refusal_5_2 : T (declines (measured (number 2000) (ratio 3 10) (good ∷ good ∷ []) (priors Absent bad_prior)) (copies 65 (requested 0) []) 5 2)
+  pub refusal_5_2 : T (declines (measured (number 2000) (ratio 3 10) (good ∷ good ∷ []) (priors None bad_prior)) (copies 65 (requested 0) []) 5 2)
   pub refusal_6 : T (declines (measured (number 2000) (ratio 3 10) (good ∷ good ∷ []) no_priors) (copies 65 (requested 0) []) 6 0)
   pub refusal_7 : T (declines (measured (number 2000) (ratio 3 10) (good ∷ good ∷ []) no_priors) (copies 63 (requested 100) (requested 0 ∷ [])) 7 64)
 
@@ -358,14 +356,14 @@ edits host e expected = same_told same_brief (tell_from (λ c. brief (report_of 
 abbrev pub new_missing : Which → Point → List Entry
 new_missing shots p = three_at shots p
 new_missing distances p = three_at distances p
-new_missing (new d) p = missing ∷ []
+new_missing (new d) p = None ∷ []
 
 pub record EditFigures : Type 0 where
   -- the 17 questions of the run, and five more; taking out puts none
   pub put_in_lem : T (edits three_of (put_in 2 (requested 99)) (reported 22
-      (flat_at nominal 1 none (Warning.LowEffectiveDegreesOfFreedom ∷ Warning.PredictionOutsideObservedDomain ∷ []))))
-  pub taken_out : T (edits three_of (take_out 1) (reported 17 (flat_at nominal 1 none low_freedom)))
-  pub exchanged : T (edits three_of (exchange 1 (requested 300)) (reported 22 (flat_at nominal 1 none low_freedom)))
+      (flat_at nominal 1 None (Warning.LowEffectiveDegreesOfFreedom ∷ Warning.PredictionOutsideObservedDomain ∷ []))))
+  pub taken_out : T (edits three_of (take_out 1) (reported 17 (flat_at nominal 1 None low_freedom)))
+  pub exchanged : T (edits three_of (exchange 1 (requested 300)) (reported 22 (flat_at nominal 1 None low_freedom)))
   -- a faulty entry, and a gap, at its place in the edited list
   pub faulty : T (edits three_of (put_in 2 (requested 0)) (declined 17 7 2))
   pub missing_there : T (edits (λ n p w. entries (new_missing w p)) (put_in 2 (requested 99)) (declined 22 13 2))
@@ -373,40 +371,40 @@ pub record EditFigures : Type 0 where
 -- ---- every number of one report
 
 abbrev pub with_interval : Option GaussianIntervalV1 → List (Option Float) → List (Option Float)
-with_interval none rest = none ∷ rest
-with_interval (some g) rest = some g.estimate ∷ some g.standard_deviation ∷ some g.lower ∷ some g.upper ∷ some g.probability ∷ rest
+with_interval None rest = None ∷ rest
+with_interval (Some g) rest = Some g.estimate ∷ Some g.standard_deviation ∷ Some g.lower ∷ Some g.upper ∷ Some g.probability ∷ rest
 
 abbrev pub with_results : List WeightedTruingObservationResultV1 → List (Option Float) → List (Option Float)
 with_results [] rest = rest
-with_results (o ∷ os) rest = some o.predicted_drop ∷ some o.residual ∷ some o.standardized_residual ∷ with_results os rest
+with_results (o ∷ os) rest = Some o.predicted_drop ∷ Some o.residual ∷ Some o.standardized_residual ∷ with_results os rest
 
 abbrev pub with_gaussian : Approximation → List (Option Float) → List (Option Float)
-with_gaussian (unavailable code) rest = none ∷ rest
+with_gaussian (unavailable code) rest = None ∷ rest
 with_gaussian (available g q) rest =
     let c = g.covariance in
-    some c.mv_variance_fps2 ∷ some c.mv_bc_covariance_fps ∷ some c.bc_variance
-    ∷ with_interval (some g.muzzle_velocity_interval_95) (with_interval (some g.ballistic_coefficient_interval_95)
-    (some g.mv_bc_correlation ∷ some g.scaled_information_condition_number ∷ rest))
+    Some c.mv_variance_fps2 ∷ Some c.mv_bc_covariance_fps ∷ Some c.bc_variance
+    ∷ with_interval (Some g.muzzle_velocity_interval_95) (with_interval (Some g.ballistic_coefficient_interval_95)
+    (Some g.mv_bc_correlation ∷ Some g.scaled_information_condition_number ∷ rest))
 
 abbrev pub with_bands : List Band → List (Option Float) → List (Option Float)
 with_bands [] rest = rest
-with_bands (b ∷ bs) rest = some b.range ∷ some b.predicted_drop ∷ with_interval b.latent (with_interval b.future (with_bands bs rest))
+with_bands (b ∷ bs) rest = Some b.range ∷ Some b.predicted_drop ∷ with_interval b.latent (with_interval b.future (with_bands bs rest))
 
 abbrev pub numbers_of : Report → List (Option Float)
 numbers_of r =
     let d = r.diagnostics in
-    some r.point.mv ∷ some r.point.bc
+    Some r.point.mv ∷ Some r.point.bc
     ∷ with_results r.observations
-    (some d.chi_square ∷ some d.prior_penalty ∷ some d.penalized_chi_square
+    (Some d.chi_square ∷ Some d.prior_penalty ∷ Some d.penalized_chi_square
     ∷ d.effective_parameter_count ∷ d.effective_degrees_of_freedom ∷ d.reduced
-    ∷ some d.bc_sensitivity_ratio ∷ some d.data_condition_number ∷ some d.gradient_norm
+    ∷ Some d.bc_sensitivity_ratio ∷ Some d.data_condition_number ∷ Some d.gradient_norm
     ∷ with_gaussian r.approximation (with_bands r.bands (chi_of r.baseline ∷ [])))
 
 -- three observations, two priors, two requested distances; the drops are linear in the point
 abbrev pub linear_at : Which → Float → Float → List Entry
-linear_at shots u v = drop u ∷ drop (v ⊕ ratio 1 4 ⊗ u) ∷ drop v ∷ []
-linear_at distances u v = drop u ∷ drop (v ⊕ ratio 1 4 ⊗ u) ∷ []
-linear_at (new d) u v = drop u ∷ []
+linear_at shots u v = Some u ∷ Some (v ⊕ ratio 1 4 ⊗ u) ∷ Some v ∷ []
+linear_at distances u v = Some u ∷ Some (v ⊕ ratio 1 4 ⊗ u) ∷ []
+linear_at (new d) u v = Some u ∷ []
 
 abbrev pub linear_three : Script
 linear_three n p w = entries (linear_at w ((p.mv ⊖ number 2000) ⊗ ratio 1 128) ((p.bc ⊖ ratio 1 2) ⊗ number 8))
@@ -416,79 +414,79 @@ with_priors = record {
   measured = measured (number 2000) (ratio 1 2)
       (observed 100 (number 4) (ratio 1 8) ∷ observed 200 (number 2) (ratio 1 8) ∷ observed 300 (number 2) (ratio 1 4) ∷ [])
       (priors (normal (number 2450) (number 2)) (normal (ratio 7 10) (ratio 1 16)));
-  requested = record { range = number 150; sigma = some (ratio 1 2) } ∷ record { range = number 350; sigma = none } ∷ [];
+  requested = record { range_yd = number 150; future_observation_sigma = Some (ratio 1 2) } ∷ record { range_yd = number 350; future_observation_sigma = None } ∷ [];
 }
 
 -- worked out apart from this definition, from the formulas of the source
 abbrev pub expected_numbers : List (Option Float)
 expected_numbers =
     -- fit
-    some (of_bits binary64 0x40a3_25b8_5285_1d63)
-    ∷ some (of_bits binary64 0x3fe5_3d78_70ab_a3f0)
+    Some (of_bits binary64 0x40a3_25b8_5285_1d63)
+    ∷ Some (of_bits binary64 0x3fe5_3d78_70ab_a3f0)
     -- residuals
-    ∷ some (of_bits binary64 0x400c_2dc2_9428_eb18)
-    ∷ some (of_bits binary64 0xbfde_91eb_5eb8_a740)
-    ∷ some (of_bits binary64 0xc00e_91eb_5eb8_a740)
-    ∷ some (of_bits binary64 0x4001_8661_8661_82a6)
-    ∷ some (of_bits binary64 0x3fc8_6618_6618_2a60)
-    ∷ some (of_bits binary64 0x3ff8_6618_6618_2a60)
-    ∷ some (of_bits binary64 0x3ff4_f5e1_c2ae_8fc0)
-    ∷ some (of_bits binary64 0xbfe6_143c_7aa2_e080)
-    ∷ some (of_bits binary64 0xc006_143c_7aa2_e080)
+    ∷ Some (of_bits binary64 0x400c_2dc2_9428_eb18)
+    ∷ Some (of_bits binary64 0xbfde_91eb_5eb8_a740)
+    ∷ Some (of_bits binary64 0xc00e_91eb_5eb8_a740)
+    ∷ Some (of_bits binary64 0x4001_8661_8661_82a6)
+    ∷ Some (of_bits binary64 0x3fc8_6618_6618_2a60)
+    ∷ Some (of_bits binary64 0x3ff8_6618_6618_2a60)
+    ∷ Some (of_bits binary64 0x3ff4_f5e1_c2ae_8fc0)
+    ∷ Some (of_bits binary64 0xbfe6_143c_7aa2_e080)
+    ∷ Some (of_bits binary64 0xc006_143c_7aa2_e080)
     -- chi-square, penalty, both
-    ∷ some (of_bits binary64 0x4038_8b56_9fa1_eb2c)
-    ∷ some (of_bits binary64 0x3fe0_adf0_b3e3_6b96)
-    ∷ some (of_bits binary64 0x4039_10c6_2541_0689)
+    ∷ Some (of_bits binary64 0x4038_8b56_9fa1_eb2c)
+    ∷ Some (of_bits binary64 0x3fe0_adf0_b3e3_6b96)
+    ∷ Some (of_bits binary64 0x4039_10c6_2541_0689)
     -- effective count, degrees of freedom, reduced
-    ∷ some (of_bits binary64 0x3fee_f97e_f97e_f939)
-    ∷ some (of_bits binary64 0x4000_41a0_41a0_41b2)
-    ∷ some (of_bits binary64 0x4028_2841_2169_629a)
+    ∷ Some (of_bits binary64 0x3fee_f97e_f97e_f939)
+    ∷ Some (of_bits binary64 0x4000_41a0_41a0_41b2)
+    ∷ Some (of_bits binary64 0x4028_2841_2169_629a)
     -- sensitivity ratio, data condition, gradient
-    ∷ some (of_bits binary64 0x3fd3_4051_e93e_32d6)
-    ∷ some (of_bits binary64 0x3ff8_dd65_3006_6495)
-    ∷ some (of_bits binary64 0x3e38_9050_0000_0000)
+    ∷ Some (of_bits binary64 0x3fd3_4051_e93e_32d6)
+    ∷ Some (of_bits binary64 0x3ff8_dd65_3006_6495)
+    ∷ Some (of_bits binary64 0x3e38_9050_0000_0000)
     -- covariance
-    ∷ some (of_bits binary64 0x400f_801f_801f_8028)
-    ∷ some (of_bits binary64 0xbf48_0018_0018_011c)
-    ∷ some (of_bits binary64 0x3f28_6618_6618_69ec)
+    ∷ Some (of_bits binary64 0x400f_801f_801f_8028)
+    ∷ Some (of_bits binary64 0xbf48_0018_0018_011c)
+    ∷ Some (of_bits binary64 0x3f28_6618_6618_69ec)
     -- intervals
-    ∷ some (of_bits binary64 0x40a3_25b8_5285_1d63)
-    ∷ some (of_bits binary64 0x3fff_bfcf_5ea8_1cb3)
-    ∷ some (of_bits binary64 0x40a3_1df1_0ba4_4312)
-    ∷ some (of_bits binary64 0x40a3_2d7f_9965_f7b4)
-    ∷ some (of_bits binary64 0x3fee_6666_6666_6666)
-    ∷ some (of_bits binary64 0x3fe5_3d78_70ab_a3f0)
-    ∷ some (of_bits binary64 0x3f8b_f12e_97b8_76c6)
-    ∷ some (of_bits binary64 0x3fe4_6268_8612_79d1)
-    ∷ some (of_bits binary64 0x3fe6_1888_5b44_ce0f)
-    ∷ some (of_bits binary64 0x3fee_6666_6666_6666)
+    ∷ Some (of_bits binary64 0x40a3_25b8_5285_1d63)
+    ∷ Some (of_bits binary64 0x3fff_bfcf_5ea8_1cb3)
+    ∷ Some (of_bits binary64 0x40a3_1df1_0ba4_4312)
+    ∷ Some (of_bits binary64 0x40a3_2d7f_9965_f7b4)
+    ∷ Some (of_bits binary64 0x3fee_6666_6666_6666)
+    ∷ Some (of_bits binary64 0x3fe5_3d78_70ab_a3f0)
+    ∷ Some (of_bits binary64 0x3f8b_f12e_97b8_76c6)
+    ∷ Some (of_bits binary64 0x3fe4_6268_8612_79d1)
+    ∷ Some (of_bits binary64 0x3fe6_1888_5b44_ce0f)
+    ∷ Some (of_bits binary64 0x3fee_6666_6666_6666)
     -- correlation, condition
-    ∷ some (of_bits binary64 0xbf9b_b3f0_01ae_db78)
-    ∷ some (of_bits binary64 0x4047_a7d2_cc39_4c41)
+    ∷ Some (of_bits binary64 0xbf9b_b3f0_01ae_db78)
+    ∷ Some (of_bits binary64 0x4047_a7d2_cc39_4c41)
     -- band
-    ∷ some (of_bits binary64 0x4062_c000_0000_0000)
-    ∷ some (of_bits binary64 0x400c_2dc2_9428_eb18)
-    ∷ some (of_bits binary64 0x400c_2dc2_9428_eb18)
-    ∷ some (of_bits binary64 0x3f8f_bfcf_5ea8_1ba4)
-    ∷ some (of_bits binary64 0x400b_ef88_5d22_188f)
-    ∷ some (of_bits binary64 0x400c_6bfc_cb2f_bda1)
-    ∷ some (of_bits binary64 0x3fee_6666_6666_6666)
-    ∷ some (of_bits binary64 0x400c_2dc2_9428_eb18)
-    ∷ some (of_bits binary64 0x3fe0_01f7_e2f9_9428)
-    ∷ some (of_bits binary64 0x4004_55ca_e14c_d8e8)
-    ∷ some (of_bits binary64 0x4012_02dd_2382_7ea4)
-    ∷ some (of_bits binary64 0x3fee_6666_6666_6666)
+    ∷ Some (of_bits binary64 0x4062_c000_0000_0000)
+    ∷ Some (of_bits binary64 0x400c_2dc2_9428_eb18)
+    ∷ Some (of_bits binary64 0x400c_2dc2_9428_eb18)
+    ∷ Some (of_bits binary64 0x3f8f_bfcf_5ea8_1ba4)
+    ∷ Some (of_bits binary64 0x400b_ef88_5d22_188f)
+    ∷ Some (of_bits binary64 0x400c_6bfc_cb2f_bda1)
+    ∷ Some (of_bits binary64 0x3fee_6666_6666_6666)
+    ∷ Some (of_bits binary64 0x400c_2dc2_9428_eb18)
+    ∷ Some (of_bits binary64 0x3fe0_01f7_e2f9_9428)
+    ∷ Some (of_bits binary64 0x4004_55ca_e14c_d8e8)
+    ∷ Some (of_bits binary64 0x4012_02dd_2382_7ea4)
+    ∷ Some (of_bits binary64 0x3fee_6666_6666_6666)
     -- band
-    ∷ some (of_bits binary64 0x4075_e000_0000_0000)
-    ∷ some (of_bits binary64 0x4001_8661_8661_82a6)
-    ∷ some (of_bits binary64 0x4001_8661_8661_82a6)
-    ∷ some (of_bits binary64 0x3fbb_eed1_ce12_a7db)
-    ∷ some (of_bits binary64 0x3fff_a0cd_7829_74c9)
-    ∷ some (of_bits binary64 0x4003_3c5c_50ae_4ae7)
-    ∷ some (of_bits binary64 0x3fee_6666_6666_6666)
-    ∷ none
+    ∷ Some (of_bits binary64 0x4075_e000_0000_0000)
+    ∷ Some (of_bits binary64 0x4001_8661_8661_82a6)
+    ∷ Some (of_bits binary64 0x4001_8661_8661_82a6)
+    ∷ Some (of_bits binary64 0x3fbb_eed1_ce12_a7db)
+    ∷ Some (of_bits binary64 0x3fff_a0cd_7829_74c9)
+    ∷ Some (of_bits binary64 0x4003_3c5c_50ae_4ae7)
+    ∷ Some (of_bits binary64 0x3fee_6666_6666_6666)
+    ∷ None
     -- baseline
-    ∷ some (of_bits binary64 0x4095_0000_0000_0000)
+    ∷ Some (of_bits binary64 0x4095_0000_0000_0000)
     ∷ []
 
 pub record ReportFigure : Type 0 where
@@ -501,21 +499,21 @@ pub record ReportFigure : Type 0 where
 pub record PollFigures : Type 0 where
   -- a gain of exactly 1e-8 is not taken: 30 trials, 8 candidates at each of ten radii
   pub gain_level : T (runs strict (zeros (number 2000) (ratio 3 10))
-      (reported 132 (polled_at nominal true 80 none (Warning.ObjectiveMeshConvergence ∷ low_freedom))))
+      (reported 132 (polled_at nominal true 80 None (Warning.ObjectiveMeshConvergence ∷ low_freedom))))
   -- of two equal candidates the first is taken
   pub first_of_equal :
       T (runs tied (zeros (number 2000) (ratio 3 10))
-      (reported 140 (polled_at (point (number 2001) (ratio 3 10)) true 88 (some Failure.RankDeficientInformation)
+      (reported 140 (polled_at (point (number 2001) (ratio 3 10)) true 88 (Some Failure.RankDeficientInformation)
       (Warning.ObjectiveMeshConvergence ∷ weak_ill_unavailable))))
   -- at a bound two of the eight candidates are unmoved, which are neither asked nor counted
   pub unmoved_skipped :
       T (runs (knee (number 2)) (zeros (number 1000) (ratio 3 2))
-      (reported 112 (polled_at (point (number 1000) (ratio 3 2)) true 60 (some Failure.MapAtParameterBound)
+      (reported 112 (polled_at (point (number 1000) (ratio 3 2)) true 60 (Some Failure.MapAtParameterBound)
       (Warning.ObjectiveMeshConvergence ∷ weak_ill_unavailable))))
   -- an unfit determinant asks nothing, and counts as a trial
   pub unfit_counts :
       T (runs unfit_at_first (zeros (number 2000) (ratio 3 10))
-      (reported 130 (polled_at nominal true 80 (some Failure.RankDeficientInformation) (Warning.ObjectiveMeshConvergence ∷ weak_ill_unavailable))))
+      (reported 130 (polled_at nominal true 80 (Some Failure.RankDeficientInformation) (Warning.ObjectiveMeshConvergence ∷ weak_ill_unavailable))))
 
 -- ---- the poll with another limit of evaluations, from 1000, 1.5: six are evaluated in a pass
 
@@ -556,5 +554,5 @@ pub record LimitFigures : Type 0 where
 pub record CutFigure : Type 0 where
   pub cut :
       T (runs (knee (of_bits binary64 0x3ff5_6e97_8d4f_df3b)) (zeros (number 1000) (ratio 3 2))
-      (reported 1076 (polled_at (point (number 1000) (of_bits binary64 0x3ff5_6c8b_4395_8156)) true 1024 (some Failure.MapAtParameterBound)
+      (reported 1076 (polled_at (point (number 1000) (of_bits binary64 0x3ff5_6c8b_4395_8156)) true 1024 (Some Failure.MapAtParameterBound)
       (Warning.ObjectiveMeshConvergence ∷ weak_ill_unavailable))))

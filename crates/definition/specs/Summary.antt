@@ -1,7 +1,6 @@
 -- What a finished fit is reported as: observation results, baseline, `build_approximation`, diagnostics, predictive bands, warnings.
-use Rattle.std.specs.Prelude.{ℕ, zero, suc, Bool, true, false, cond, not, ◌||◌, pos, length, Float}
+use Rattle.std.specs.Prelude.{ℕ, zero, suc, Bool, true, false, cond, not, ◌||◌, pos, length, Float, Option, None, Some}
 use mathlib.Core.List.{List, [], ◌∷◌, map, foldl}
-use Rattle.std.proofs.Math.Option.{Option, none, some}
 use Rattle.std.specs.Float.{inf, binary64}
 use Rattle.std.specs.Float.Ieee.{neg, lt, le, of_int}
 use Rattle.root.specs.Root.{root_of}
@@ -20,8 +19,7 @@ use Rattle.definition.specs.Likelihood.{chi_square_of, Rows, rows_of}
 use Rattle.definition.specs.Mesh.{Convergence, not_converged, scaled_gradient, objective_mesh}
 use Rattle.definition.specs.Fit.{Fit, gradient_norm_of}
 use Rattle.definition.specs.declared.Point.{Point}
-use Rattle.definition.specs.declared.Prior.{Prior}
-use Rattle.definition.specs.declared.Prior.TheVariants.{Absent, Normal}
+use Rattle.definition.specs.declared.NormalPriorV1.{NormalPriorV1}
 use Rattle.definition.specs.declared.TruingPriorsV1.{TruingPriorsV1}
 use Rattle.definition.specs.declared.Row.{Row}
 use Rattle.definition.specs.declared.Evaluation.{Evaluation}
@@ -41,7 +39,7 @@ unfoldable pub result_of : Observation → Float → WeightedTruingObservationRe
 result_of o predicted =
     let residual = predicted ⊖ o.drop in
     record {
-      range_yd = o.range;
+      range_yd = o.range_yd;
       observed_drop = o.drop;
       sigma = o.sigma;
       predicted_drop = predicted;
@@ -58,14 +56,14 @@ pub record Baseline : Type 0 where
   pub observations : List WeightedTruingObservationResultV1
 
 abbrev pub baseline_at : Measured → ℕ → List Float → Option Baseline
-baseline_at m (suc gap) drops = none
+baseline_at m (suc gap) drops = None
 baseline_at m zero drops =
     let s = chi_square_of m.observations drops in
-    cond (finite s) (some (record { entered = m.entered; chi_square = s; observations = results_of m.observations drops })) none
+    cond (finite s) (Some (record { entered = m.entered; chi_square = s; observations = results_of m.observations drops })) None
 
 -- a refusal, a missing entry or a sum that is not finite means no baseline
 unfoldable pub baseline_of : Measured → Reply → Option Baseline
-baseline_of m refused = none
+baseline_of m refused = None
 baseline_of m (entries es) = baseline_at m (reading_of es).gap (reading_of es).drops
 
 -- ---- `build_approximation`
@@ -90,9 +88,9 @@ unfoldable pub correlation_of : TruingCovarianceV1 → Float
 correlation_of c = c.mv_bc_covariance_fps ⊘ root_of (c.mv_variance_fps2 ⊗ c.bc_variance)
 
 abbrev pub with_intervals : Symmetric2 → Float → Option GaussianIntervalV1 → Option GaussianIntervalV1 → Approximation
-with_intervals q condition none bc = unavailable Failure.NonFiniteInformation
-with_intervals q condition (some mv) none = unavailable Failure.NonFiniteInformation
-with_intervals q condition (some mv) (some bc) =
+with_intervals q condition None bc = unavailable Failure.NonFiniteInformation
+with_intervals q condition (Some mv) None = unavailable Failure.NonFiniteInformation
+with_intervals q condition (Some mv) (Some bc) =
     let correlation = correlation_of (covariance_of q) in
     cond (finite correlation)
     (available (record {
@@ -130,31 +128,31 @@ unfoldable pub effective_count_of : Symmetric2 → Symmetric2 → Float
 effective_count_of d q = clamp_of (d.a00 ⊗ q.a00 ⊕ two64 ⊗ d.a01 ⊗ q.a01 ⊕ d.a11 ⊗ q.a11) zero64 two64
 
 abbrev pub effective_count : Symmetric2 → Approximation → Option Float
-effective_count d (available g q) = some (effective_count_of d q)
-effective_count d (unavailable code) = none
+effective_count d (available g q) = Some (effective_count_of d q)
+effective_count d (unavailable code) = None
 
 abbrev pub degrees_of_freedom : ℕ → Option Float → Option Float
-degrees_of_freedom n none = none
-degrees_of_freedom n (some count) = some (of_int binary64 (pos n) ⊖ count)
+degrees_of_freedom n None = None
+degrees_of_freedom n (Some count) = Some (of_int binary64 (pos n) ⊖ count)
 
 abbrev pub reduced_chi_square : Float → Option Float → Option Float
-reduced_chi_square chi none = none
-reduced_chi_square chi (some dof) = cond (lt epsilon dof) (some (chi ⊘ dof)) none
+reduced_chi_square chi None = None
+reduced_chi_square chi (Some dof) = cond (lt epsilon dof) (Some (chi ⊘ dof)) None
 
 abbrev pub criterion : Convergence → Option TruingMapConvergenceCriterionV1
-criterion not_converged = none
-criterion scaled_gradient = some ScaledGradient
-criterion (objective_mesh r i) = some ObjectiveMesh
+criterion not_converged = None
+criterion scaled_gradient = Some ScaledGradient
+criterion (objective_mesh r i) = Some ObjectiveMesh
 
 abbrev pub poll_radius : Convergence → Option Float
-poll_radius not_converged = none
-poll_radius scaled_gradient = none
-poll_radius (objective_mesh r i) = some r
+poll_radius not_converged = None
+poll_radius scaled_gradient = None
+poll_radius (objective_mesh r i) = Some r
 
 abbrev pub poll_improvement : Convergence → Option Float
-poll_improvement not_converged = none
-poll_improvement scaled_gradient = none
-poll_improvement (objective_mesh r i) = some i
+poll_improvement not_converged = None
+poll_improvement scaled_gradient = None
+poll_improvement (objective_mesh r i) = Some i
 
 pub record Diagnostics : Type 0 where
   pub chi_square : Float
@@ -206,33 +204,33 @@ band_variance_of q gMv gBc =
     let bcPart = gBc ⊗ gBc ⊗ q.a11 in
     let variance = mvPart ⊕ two64 ⊗ gMv ⊗ gBc ⊗ q.a01 ⊕ bcPart in
     let tolerance = variance_tolerance ⊗ max_of (max_of (abs_of mvPart) (abs_of bcPart)) one64 in
-    cond (le zero64 variance) (some variance) (cond (le (neg tolerance) variance) (some zero64) none)
+    cond (le zero64 variance) (Some variance) (cond (le (neg tolerance) variance) (Some zero64) None)
 
 abbrev pub interval_at : Float → Option Float → Option GaussianIntervalV1
-interval_at predicted none = none
-interval_at predicted (some variance) = interval95 predicted variance
+interval_at predicted None = None
+interval_at predicted (Some variance) = interval95 predicted variance
 
 unfoldable pub latent_of : Symmetric2 → Row → Option GaussianIntervalV1
 latent_of q r = interval_at r.predicted_drop (band_variance_of q (r.d_drop_d_mv ⊗ mv_scale) (r.d_drop_d_bc ⊗ bc_scale))
 
 -- for a future observation, where its sigma is given and the latent interval is there
 unfoldable pub future_of : Float → Option GaussianIntervalV1 → Option Float → Option GaussianIntervalV1
-future_of predicted none sigma = none
-future_of predicted (some latent) none = none
-future_of predicted (some latent) (some sigma) = interval95 predicted (squared latent.standard_deviation ⊕ squared sigma)
+future_of predicted None sigma = None
+future_of predicted (Some latent) None = None
+future_of predicted (Some latent) (Some sigma) = interval95 predicted (squared latent.standard_deviation ⊕ squared sigma)
 
 abbrev pub latent_with : Approximation → Row → Option GaussianIntervalV1
 latent_with (available g q) r = latent_of q r
-latent_with (unavailable code) r = none
+latent_with (unavailable code) r = None
 
 unfoldable pub band_of : Approximation → Requested → Row → Band
 band_of a d r =
     let latent = latent_with a r in
     record {
-      range = d.range;
+      range = d.range_yd;
       predicted_drop = r.predicted_drop;
       latent = latent;
-      future = future_of r.predicted_drop latent d.sigma;
+      future = future_of r.predicted_drop latent d.future_observation_sigma;
     }
 
 -- ---- warnings
@@ -245,7 +243,7 @@ abbrev pub farther : Float → Float → Float
 farther m d = cond (lt m d) d m
 
 abbrev pub ranges_of : List Observation → List Float
-ranges_of obs = map (λ o. o.range) obs
+ranges_of obs = map (λ o. o.range_yd) obs
 
 unfoldable pub observed_min : List Observation → Float
 observed_min obs = foldl nearer (inf false) (ranges_of obs)
@@ -254,12 +252,12 @@ unfoldable pub observed_max : List Observation → Float
 observed_max obs = foldl farther (inf true) (ranges_of obs)
 
 abbrev pub is_outside : List Observation → Requested → Bool
-is_outside obs d = lt d.range (observed_min obs) || lt (observed_max obs) d.range
+is_outside obs d = lt d.range_yd (observed_min obs) || lt (observed_max obs) d.range_yd
 
 -- a posterior variance that remains at 0.8 of the prior's or more
-unfoldable pub dominated_of : Prior → Float → Bool
-dominated_of Absent variance = false
-dominated_of (Normal q) variance = le (prior_dominance ⊗ squared q.sigma) variance
+unfoldable pub dominated_of : Option NormalPriorV1 → Float → Bool
+dominated_of None variance = false
+dominated_of (Some q) variance = le (prior_dominance ⊗ squared q.sigma) variance
 
 unfoldable pub crosses_bounds_of : GaussianIntervalV1 → GaussianIntervalV1 → Bool
 crosses_bounds_of mv bc = lt mv.lower mv_min || lt mv_max mv.upper || lt bc.lower bc_min || lt bc_max bc.upper
@@ -279,8 +277,8 @@ is_unavailable (available g q) = false
 is_unavailable (unavailable code) = true
 
 abbrev pub at_most_one : Option Float → Bool
-at_most_one none = false
-at_most_one (some dof) = le dof one64
+at_most_one None = false
+at_most_one (Some dof) = le dof one64
 
 -- a code that stands where its test passes
 abbrev pub warn : Bool → TruingUncertaintyWarningCodeV1 → List TruingUncertaintyWarningCodeV1 → List TruingUncertaintyWarningCodeV1

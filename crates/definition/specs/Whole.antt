@@ -1,8 +1,7 @@
 -- The whole run: the opening's refusals, the fit, the evaluation at the fit, the bands, the baseline. And an edit of a finished run, which is a run too.
-use Rattle.std.specs.Prelude.{ℕ, zero, suc, ◌-◌, ◌+◌, Bool, true, not, ◌&&◌, List, [], ◌∷◌, leb, ltb, length, set, get_or, Float}
-use Rattle.std.proofs.Math.Option.{Option, none, some}
+use Rattle.std.specs.Prelude.{ℕ, zero, suc, ◌-◌, ◌+◌, Bool, true, not, ◌&&◌, List, [], ◌∷◌, leb, ltb, length, set, get_or, Float, Option, None, Some}
 use Rattle.std.specs.Float.Ieee.{le}
-use Rattle.numeric.specs.Numeric.{zero64, finite}
+use Rattle.numeric.specs.Numeric.{zero64, finite, within_of}
 use Rattle.criteria.specs.Criteria.{mv_min, mv_max, bc_min, bc_max}
 use Rattle.definition.specs.Lists.{first_at, insert_at, remove_at}
 use Rattle.definition.specs.Request.{Observation, Requested, Measured, Opening}
@@ -12,14 +11,9 @@ use Rattle.definition.specs.Fit.{Fit, fit_map}
 use Rattle.definition.specs.Summary.{Finished, Baseline, baseline_of}
 use Rattle.definition.specs.declared.Point.{Point}
 use Rattle.definition.specs.declared.Evaluation.{Evaluation}
-use Rattle.definition.specs.declared.Prior.{Prior}
-use Rattle.definition.specs.declared.Prior.TheVariants.{Absent, Normal}
+use Rattle.definition.specs.declared.NormalPriorV1.{NormalPriorV1}
 
 -- ---- opening: refusals 1 to 7, in order
-
--- finite, and from the lower to the upper end, ends included
-unfoldable pub within_of : Float → Float → Float → Bool
-within_of lower upper x = finite x && (le lower x && le x upper)
 
 -- finite and above 0
 unfoldable pub positive_of : Float → Bool
@@ -29,18 +23,18 @@ unfoldable pub sound_observation_of : Float → Float → Float → Bool
 sound_observation_of range drop sigma = positive_of range && (finite drop && positive_of sigma)
 
 abbrev pub faulty_observation : Observation → Bool
-faulty_observation o = not (sound_observation_of o.range o.drop o.sigma)
+faulty_observation o = not (sound_observation_of o.range_yd o.drop o.sigma)
 
-unfoldable pub sound_prior_of : Float → Float → Prior → Bool
-sound_prior_of lower upper Absent = true
-sound_prior_of lower upper (Normal q) = within_of lower upper q.mean && positive_of q.sigma
+unfoldable pub sound_prior_of : Float → Float → Option NormalPriorV1 → Bool
+sound_prior_of lower upper None = true
+sound_prior_of lower upper (Some q) = within_of lower upper q.mean && positive_of q.sigma
 
 abbrev pub sound_sigma : Option Float → Bool
-sound_sigma none = true
-sound_sigma (some sigma) = positive_of sigma
+sound_sigma None = true
+sound_sigma (Some sigma) = positive_of sigma
 
 unfoldable pub sound_requested_of : Requested → Bool
-sound_requested_of d = positive_of d.range && sound_sigma d.sigma
+sound_requested_of d = positive_of d.range_yd && sound_sigma d.future_observation_sigma
 
 abbrev pub faulty_requested : Requested → Bool
 faulty_requested d = not (sound_requested_of d)
@@ -129,8 +123,8 @@ placed (put_in i d) n = leb 1 i && leb i (n + 1)
 placed (take_out i) n = leb 1 i && leb i n
 placed (exchange i d) n = leb 1 i && leb i n
 
--- the same change in a list of numbers
-abbrev pub edited_numbers : Edit → Float → List Float → List Float
+-- the same change in a list of anything, by what goes in
+abbrev pub edited_numbers : {A : Type 0} → Edit → A → List A → List A
 edited_numbers (put_in i d) x xs = insert_at (i - 1) x xs
 edited_numbers (take_out i) x xs = remove_at (i - 1) xs
 edited_numbers (exchange i d) x xs = set xs (i - 1) x
@@ -164,7 +158,7 @@ unless_missing (suc gap) place = refuse 13 place
 -- the five questions about the new distance alone
 unfoldable pub edit_questions : Finished → Edit → ℕ → Requested → Run Finished
 edit_questions c e place d = do
-  one ← truing_jacobian_rows c.fit.point (new d.range)
+  one ← truing_jacobian_rows c.fit.point (new d.range_yd)
   unless_missing one.gap place
   done (renewed c e one)
 

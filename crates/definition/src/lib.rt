@@ -1,34 +1,56 @@
 // The values that a request, a report and the pieces between them are made of.
 #![tactic(auto)]
 
+ghost use Rattle.std.specs.Prelude.{◌≡◌};
+ghost use Rattle.definition.specs.Refusals.{number_of};
+ghost use Rattle.definition.specs.Conversions.{failure_of, criterion_of};
+
 use interval::GaussianIntervalV1;
-use matrix::Symmetric2;
+use matrix::{InverseError, Symmetric2};
 
 // A speed in fps and a coefficient.
-#[derive(Clone, Copy)]
+#[derive(Clone, Copy, PartialEq)]
 pub struct Point {
     pub mv: f64,
     pub bc: f64,
 }
 
 // An explicit independent normal prior, in the parameter's own unit.
-#[derive(Clone, Copy)]
+#[derive(Clone, Copy, PartialEq)]
 pub struct NormalPriorV1 {
     pub mean: f64,
     pub sigma: f64,
 }
 
 // There are no hidden priors: an absent one adds nothing.
-#[derive(Clone, Copy)]
-pub enum Prior {
-    Absent,
-    Normal(NormalPriorV1),
+#[derive(Clone, Copy, PartialEq)]
+pub struct TruingPriorsV1 {
+    pub muzzle_velocity_fps: Option<NormalPriorV1>,
+    pub ballistic_coefficient: Option<NormalPriorV1>,
 }
 
+// An observation: distance in yards, drop and its sigma in the run's unit.
+#[derive(Clone, Copy, Default, PartialEq)]
+pub struct WeightedTruingObservationV1 {
+    pub range_yd: f64,
+    pub drop: f64,
+    pub sigma: f64,
+}
+
+// A requested distance, with the sigma of a future observation if one is given.
+#[derive(Clone, Copy, Default, PartialEq)]
+pub struct TruingPredictionRequestV1 {
+    pub range_yd: f64,
+    pub future_observation_sigma: Option<f64>,
+}
+
+// A request: the entered point, the observations, the priors and the requested distances.
 #[derive(Clone, Copy)]
-pub struct TruingPriorsV1 {
-    pub muzzle_velocity_fps: Prior,
-    pub ballistic_coefficient: Prior,
+pub struct UncertaintyTruingRequestV1<'a> {
+    pub entered: Point,
+    pub observations: &'a [WeightedTruingObservationV1],
+    pub priors: TruingPriorsV1,
+    pub predictions: &'a [TruingPredictionRequestV1],
 }
 
 // A drop and its slopes by speed and by coefficient, at one distance.
@@ -66,7 +88,7 @@ pub struct Evaluation {
 }
 
 // Posterior covariance of (speed, coefficient), in their own units.
-#[derive(Clone, Copy)]
+#[derive(Clone, Copy, PartialEq)]
 pub struct TruingCovarianceV1 {
     pub mv_variance_fps2: f64,
     pub mv_bc_covariance_fps: f64,
@@ -74,7 +96,7 @@ pub struct TruingCovarianceV1 {
 }
 
 // The local Gaussian approximation around the fit.
-#[derive(Clone, Copy)]
+#[derive(Clone, Copy, PartialEq)]
 pub struct TruingGaussianApproximationV1 {
     pub covariance: TruingCovarianceV1,
     pub muzzle_velocity_interval_95: GaussianIntervalV1,
@@ -84,7 +106,7 @@ pub struct TruingGaussianApproximationV1 {
 }
 
 // An observation beside its prediction.
-#[derive(Clone, Copy)]
+#[derive(Clone, Copy, PartialEq)]
 pub struct WeightedTruingObservationResultV1 {
     pub range_yd: f64,
     pub observed_drop: f64,
@@ -95,14 +117,14 @@ pub struct WeightedTruingObservationResultV1 {
 }
 
 // Numerical criterion that verified the reported fit.
-#[derive(Clone, Copy)]
+#[derive(Clone, Copy, PartialEq, Eq)]
 pub enum TruingMapConvergenceCriterionV1 {
     ScaledGradient,
     ObjectiveMesh,
 }
 
 // Why the Gaussian approximation was withheld.
-#[derive(Clone, Copy)]
+#[derive(Clone, Copy, PartialEq, Eq)]
 pub enum TruingApproximationFailureCodeV1 {
     OptimizerDidNotConverge,
     MapAtParameterBound,
@@ -110,8 +132,22 @@ pub enum TruingApproximationFailureCodeV1 {
     NonFiniteInformation,
 }
 
+impl From<InverseError> for TruingApproximationFailureCodeV1 {
+    ghost from_gives = { λ e code. code ≡ failure_of e };
+
+    fn from(e: InverseError) -> TruingApproximationFailureCodeV1 {
+        match e {
+            InverseError::NonFiniteInformation =>
+                TruingApproximationFailureCodeV1::NonFiniteInformation,
+            InverseError::RankDeficientInformation => {
+                TruingApproximationFailureCodeV1::RankDeficientInformation
+            }
+        }
+    }
+}
+
 // The warnings, in the order in which they are pushed.
-#[derive(Clone, Copy)]
+#[derive(Clone, Copy, PartialEq, Eq)]
 pub enum TruingUncertaintyWarningCodeV1 {
     OptimizerDidNotConverge,
     ObjectiveMeshConvergence,
@@ -126,39 +162,76 @@ pub enum TruingUncertaintyWarningCodeV1 {
 }
 
 // Which distances a question is about: those of the observations, the requested ones, or the new one of an edit.
-#[derive(Clone, Copy)]
+#[derive(Clone, Copy, PartialEq, Eq)]
 pub enum Distances {
     Shots,
     Requested,
     New,
 }
 
-// What a call yields: a question (a point, and which list of distances), a report, or a refusal with its number and position.
-#[derive(Clone, Copy)]
+// Why a call is declined, or a run or an edit ends without a report, by the scope's numbers.
+#[derive(Clone, Copy, PartialEq, Eq)]
+pub enum RefusalCode {
+    FaultyPoint = 1,
+    TooFewObservations = 2,
+    TooManyObservations = 3,
+    FaultyObservation = 4,
+    FaultyPrior = 5,
+    TooManyDistances = 6,
+    FaultyDistance = 7,
+    NoQuestionOpen = 8,
+    WrongEntryCount = 9,
+    PointRefused = 10,
+    ObservationMissing = 11,
+    ObjectiveNotFinite = 12,
+    DistanceMissing = 13,
+    NoFinishedReport = 14,
+    NoSuchPlace = 15,
+}
+
+impl RefusalCode {
+    pub fn number(self) -> u64
+        ensures { result ≡ number_of self }
+    {
+        self as u64
+    }
+}
+
+// A refusal: why, and the position that is at fault, counted from 1, or 0 where none is named.
+#[derive(Clone, Copy, PartialEq, Eq)]
+pub struct Refusal {
+    pub code: RefusalCode,
+    pub position: usize,
+}
+
+// What a call yields: a question (a point, and which list of distances), a report, or a refusal.
+#[derive(Clone, Copy, PartialEq)]
 pub enum Step {
     Question(f64, f64, Distances),
     Report,
-    Refused(usize, usize),
+    Refused(Refusal),
 }
 
-// A double that may be absent.
-#[derive(Clone, Copy)]
-pub enum Number {
-    Absent,
-    Given(f64),
-}
-
-// How a fit was verified, if it was; the mesh with its final radius and the largest gain found there.
-#[derive(Clone, Copy)]
+// How a fit was verified; the mesh with its final radius and the largest gain found there.
+#[derive(Clone, Copy, PartialEq)]
 pub enum Convergence {
-    NotConverged,
     ScaledGradient,
-    ObjectiveMesh(f64, f64),
+    ObjectiveMesh { radius: f64, improvement: f64 },
+}
+
+impl From<Convergence> for TruingMapConvergenceCriterionV1 {
+    ghost from_gives = { λ c criterion. criterion ≡ criterion_of c };
+
+    fn from(c: Convergence) -> TruingMapConvergenceCriterionV1 {
+        match c {
+            Convergence::ScaledGradient => TruingMapConvergenceCriterionV1::ScaledGradient,
+            Convergence::ObjectiveMesh { .. } => TruingMapConvergenceCriterionV1::ObjectiveMesh,
+        }
+    }
 }
 
 // The approximation, or why it was withheld. The scaled covariance is kept beside it: the predictive bands are made from that one.
-#[derive(Clone, Copy)]
-pub enum TruingApproximationV1 {
-    Available(TruingGaussianApproximationV1, Symmetric2),
-    Unavailable(TruingApproximationFailureCodeV1),
-}
+pub type TruingApproximationV1 = Result<
+    (TruingGaussianApproximationV1, Symmetric2),
+    TruingApproximationFailureCodeV1,
+>;

@@ -1,27 +1,18 @@
 -- The book and the definition agree at every call of a host whose replies come from one solver: by induction over the calls. Assumes nothing.
-use Prim.Native.Nat.{ℕ, suc, ◌+◌}
-use mathlib.Core.Path.{◌≡◌, refl, sym, ap, ◌∙◌, subst}
-use mathlib.Core.Bool.{Bool, true, false, cond}
-use mathlib.Core.List.{List, [], ◌∷◌, ◌++◌}
-use mathlib.Core.Option.{Option, none, some}
-use mathlib.Core.Logic.{◌↔◌}
-use native.Mathlib.Omega.{arith}
-use lib.ListN.{length}
-use lib.Ieee.{Float}
+use Rattle.std.proofs.Common.{◌≡◌, ◌↔◌, ℕ, suc, ◌+◌, Bool, true, false, cond, eqb, List, [], ◌∷◌, ◌++◌, length, Option, None, Some}
+use Rattle.std.proofs.Common.{refl, sym, ap, ◌∙◌, subst, arith}
 use Rattle.definition.specs.Request.{Requested, Opening}
-use Rattle.definition.specs.Run.{Run, done, refuse, ask, Reply, refused, entries, Which, shots, distances, new}
+use Rattle.definition.specs.Run.{Run, done, refuse, ask, Entry, Reply, refused, entries, Which, shots, distances, new}
 use Rattle.definition.specs.Host.{Outcome, ends, refuses, Host, play, questions}
 use Rattle.definition.specs.Summary.{Finished, Report, report_of}
 use Rattle.definition.specs.Whole.{whole, Edit, put_in, take_out, exchange, edited, placed, edit}
 use Rattle.definition.specs.Laws.{Asks}
 use Rattle.definition.specs.declared.Point.{Point}
 use Rattle.definition.proofs.Questions.{asks_now, asks_next, asks_whole, asks_edit}
-use Rattle.definition.specs.Session.{entries_of}
 use Rattle.fresh_outcome.specs.Solver.{Solver, reply_at, host_of, with_list, fresh, BandAlone}
 use Rattle.fresh_outcome.proofs.Edits.{edit_fresh, list_kept}
 use Rattle.fresh_outcome.proofs.Reports.{only_band}
-use Rattle.definition.specs.Session.{head, list_of, sizes_for, wants, right_length}
-use Rattle.definition.specs.declared.Step.{Step}
+use Rattle.definition.specs.Session.{Said, head, list_of, sizes_for, wants}
 use Rattle.demands.specs.Calls.{Call, reply, refuse_point, change, resume, Editing, At, first, rest_at, kept_by, finished_by, finished_at, report_by, Taking}
 use Rattle.demands.specs.Calls.{declines, takes, taking_reply, taking_refusal, taking_edit, stance, with_reply, with_edit, after_taken, unless_declined}
 use Rattle.demands.specs.Calls.{after_call, due, due_to}
@@ -32,16 +23,16 @@ use Rattle.demands.specs.Book.{begun, followed, Replies, Comes, FromSolver, said
 -- ---- in general
 
 apart : {n : ℕ} {A : Type 0} → declines n ≡ takes → A
-apart e = let z : ◌≡◌ {A = ℕ} 0 1 = cc in absurd (omega arith)
+apart e = absurd (grind arith)
 
-not_none : {A B : Type 0} {a : A} → ◌≡◌ {A = Option A} (some a) none → B
-not_none e = let z : ◌≡◌ {A = ℕ} 0 1 = cc in absurd (omega arith)
+not_none : {A B : Type 0} {a : A} → ◌≡◌ {A = Option A} (Some a) None → B
+not_none e = absurd (grind arith)
 
 not_both : {A : Type 0} → ◌≡◌ {A = Bool} true false → A
-not_both e = let z : ◌≡◌ {A = ℕ} 0 1 = cc in absurd (omega arith)
+not_both e = absurd (grind arith)
 
-no_refusal : {n i : ℕ} {A : Type 0} → Step.Report ≡ Step.Refused n i → A
-no_refusal e = let z : ◌≡◌ {A = ℕ} 0 1 = cc in absurd (omega arith)
+no_refusal : {n i : ℕ} {A : Type 0} → Said.report ≡ Said.refusal n i → A
+no_refusal e = absurd (grind arith)
 
 if_takes : (b : Bool) (n : ℕ) → cond b takes (declines n) ≡ takes → b ≡ true
 if_takes true n e = refl
@@ -49,13 +40,13 @@ if_takes false n e = apart e
 
 -- the value of an outcome
 abbrev end_of : Outcome Finished → Option Finished
-end_of (ends c) = some c
-end_of (refuses n i) = none
+end_of (ends c) = Some c
+end_of (refuses n i) = None
 
 same_end : {c d : Finished} → ends c ≡ ends d → c ≡ d
 same_end e = cc
 
-report_end : (f : Outcome Finished) → report_by (end_of f) ≡ report_from none f
+report_end : (f : Outcome Finished) → report_by (end_of f) ≡ report_from None f
 report_end (ends c) = refl
 report_end (refuses n i) = refl
 
@@ -63,9 +54,7 @@ report_end (refuses n i) = refl
 
 pub resume_more : (t : Run Finished) (rs : List Reply) (r : Reply) (p : Point) (w : Which) (k : Reply → Run Finished) → resume t rs ≡ ask p w k
     → resume t (rs ++ (r ∷ [])) ≡ k r
-resume_more (done c) [] r p w k e = cc
-resume_more (refuse n i) [] r p w k e = cc
-resume_more (ask p' w' k') [] r p w k e = cc
+resume_more t [] r p w k e = rw e
 resume_more (done c) (x ∷ rs) r p w k e = cc
 resume_more (refuse n i) (x ∷ rs) r p w k e = cc
 resume_more (ask p' w' k') (x ∷ rs) r p w k e = resume_more (k' x) rs r p w k e
@@ -73,12 +62,12 @@ resume_more (ask p' w' k') (x ∷ rs) r p w k e = resume_more (k' x) rs r p w k 
 module _ (o : Opening) (run : List Reply) where
   pub rest_more : (last : Option Editing) (r : Reply) (p : Point) (w : Which) (k : Reply → Run Finished)
       → rest_at o (record { run = run; last = last }) ≡ ask p w k → rest_at o (with_reply run last r) ≡ k r
-  rest_more none r p w k e = resume_more (whole o) run r p w k e
-  rest_more (some x) r p w k e = resume_more (edit x.of x.made) x.replies r p w k e
+  rest_more None r p w k e = resume_more (whole o) run r p w k e
+  rest_more (Some x) r p w k e = resume_more (edit x.of x.made) x.replies r p w k e
 
   pub kept_more : (last : Option Editing) (r : Reply) → kept_by (with_reply run last r).last ≡ kept_by last
-  kept_more none r = refl
-  kept_more (some x) r = refl
+  kept_more None r = refl
+  kept_more (Some x) r = refl
 
 -- ---- the invariant
 
@@ -89,7 +78,7 @@ module _ (σ : Solver) (o : Opening) where
 
   -- what is left of the run comes to the fresh outcome of the opening's list
   record RunGoes (kept : Option Finished) (left : Run Finished) (list : List Requested) (replies : ℕ) : Type 0 where
-    pub none_kept : kept ≡ none
+    pub none_kept : kept ≡ None
     pub listed : list ≡ o.requested
     pub suits : Asks (Suits (host_of σ o) in_run) 4546 left
     pub plays : play (host_of σ o) left ≡ fresh σ o o.requested
@@ -98,7 +87,7 @@ module _ (σ : Solver) (o : Opening) where
   -- what is left of an edit comes to the fresh outcome of the edited list; kept is the finished run of the list as it is
   record EditGoes (e : Edit) (kept : Option Finished) (left : Run Finished) (list : List Requested) (replies : ℕ) : Type 0 where
     pub was : Finished
-    pub was_kept : kept ≡ some was
+    pub was_kept : kept ≡ Some was
     pub before : fresh σ o list ≡ ends was
     pub reported : reports σ o o.requested ≡ true
     pub fits : placed e (length list) ≡ true
@@ -108,13 +97,13 @@ module _ (σ : Solver) (o : Opening) where
 
   -- a question is left, and this one is open
   record Opens (at : ℕ → Where) (n : ℕ) (left : Run Finished) (asked : Option Question) : Type 0 where
-    pub hears : heard o (head left) ≡ some n
+    pub hears : heard o (head left) ≡ Some n
     pub asks : asked ≡ question_in o (at n) (head left)
 
   -- no question is left
   record Rests (kept : Option Finished) (left : Run Finished) (list : List Requested) : Type 0 where
-    pub hears : heard o (head left) ≡ none
-    pub finished : finished_by kept left ≡ cond (reports σ o o.requested) (end_of (fresh σ o list)) none
+    pub hears : heard o (head left) ≡ None
+    pub finished : finished_by kept left ≡ cond (reports σ o o.requested) (end_of (fresh σ o list)) None
     pub reported : reports σ o o.requested ≡ true → reports σ o list ≡ true
 
   abbrev Stands : Option Finished → Run Finished → List Requested → Option Question → ℕ → Where → Type 0
@@ -131,7 +120,7 @@ pub record Agrees (σ : Solver) (o : Opening) (t : At) (u : Trail) : Type 0 wher
 -- ---- what comes next is heard
 
 -- the trail with this book, what was said and so many replies
-abbrev noted : Opening → Book → Step → ℕ → Trail
+abbrev noted : Opening → Book → Said → ℕ → Trail
 noted o b said m = record { book = b; asked = question_in o b.at said; replies = m }
 
 module _ (σ : Solver) (o : Opening) where
@@ -162,25 +151,25 @@ module _ (σ : Solver) (o : Opening) where
 
   -- no question comes: what is said, and what stands, is the outcome
   ends_so : (h : Host) (kept : Option Finished) (left : Run Finished) (f : Outcome Finished) (before : Option Report)
-      → play h left ≡ f → report_by kept ≡ before → heard o (head left) ≡ none → Ends f before (head left) (λ p. report_by (finished_by kept left) ≡ p)
+      → play h left ≡ f → report_by kept ≡ before → heard o (head left) ≡ None → Ends f before (head left) (λ p. report_by (finished_by kept left) ≡ p)
   ends_so h kept (done c) f before e k z = record { says = ap said_by e; reads = ap (report_from before) e }
   ends_so h kept (refuse n i) f before e k z = record { says = ap said_by e; reads = k ∙ ap (report_from before) e }
   ends_so h kept (ask p w k) f before e l z = not_none z
 
   -- no question comes exactly where the play has put them all
-  stops_so : (h : Host) (left : Run Finished) (n all : ℕ) → n + questions h left ≡ all → (heard o (head left) ≡ none) ↔ (n ≡ all)
+  stops_so : (h : Host) (left : Run Finished) (n all : ℕ) → n + questions h left ≡ all → (heard o (head left) ≡ None) ↔ (n ≡ all)
   stops_so h (done c) n all e = (λ z. omega arith, λ z. refl)
   stops_so h (refuse m i) n all e = (λ z. omega arith, λ z. refl)
   stops_so h (ask p w k) n all e = (λ z. not_none z, λ z. absurd (omega arith))
 
   -- an edit has ended: its finished run, the report that stands then, and what is new in it
-  abbrev Ended : Edit → Option Finished → Option Report → Step → Type 0
+  abbrev Ended : Edit → Option Finished → Option Report → Said → Type 0
   Ended e kept stands said =
-      (was : Finished) × (new : Report) × (kept ≡ some was) × (stands ≡ some new)
-      × (said ≡ Step.Report → BandAlone e (report_of was) new) × ((n i : ℕ) → said ≡ Step.Refused n i → new ≡ report_of was)
+      (was : Finished) × (new : Report) × (kept ≡ Some was) × (stands ≡ Some new)
+      × (said ≡ Said.report → BandAlone e (report_of was) new) × ((n i : ℕ) → said ≡ Said.refusal n i → new ≡ report_of was)
 
   changes_so : (e : Edit) (kept : Option Finished) (left : Run Finished) (list : List Requested) (m : ℕ) → EditGoes σ o e kept left list m
-      → heard o (head left) ≡ none → Ended e kept (report_by (finished_by kept left)) (head left)
+      → heard o (head left) ≡ None → Ended e kept (report_by (finished_by kept left)) (head left)
   changes_so e kept (done d) list m g z =
       (g.was, report_of d, g.was_kept, refl, λ r. only_band σ o list g.was d e g.before g.fits (sym g.plays), λ n i r. no_refusal r)
   changes_so e kept (refuse n i) list m g z = (g.was, report_of g.was, g.was_kept, ap report_by g.was_kept, λ r. no_refusal (sym r), λ n i r. refl)
@@ -188,28 +177,28 @@ module _ (σ : Solver) (o : Opening) where
 
   -- ---- at the opening
 
-  first_goes : RunGoes σ o none (whole o) o.requested 0
+  first_goes : RunGoes σ o None (whole o) o.requested 0
   unfolding fresh
   first_goes = record { none_kept = refl; listed = refl; suits = asks_whole (λ p n. refl) (λ p n. refl) o; plays = refl; counted = omega arith }
 
   opened_so : (h : Option ℕ) → opened o h ≡ run_heard σ o o.requested h
-  opened_so (some n) = refl
-  opened_so none = refl
+  opened_so (Some n) = refl
+  opened_so None = refl
 
   -- ---- what stands, and what is ruled
 
-  open_none : (n : ℕ) (kept : Option Finished) (left : Run Finished) → heard o (head left) ≡ some n → finished_by kept left ≡ none
+  open_none : (n : ℕ) (kept : Option Finished) (left : Run Finished) → heard o (head left) ≡ Some n → finished_by kept left ≡ None
   open_none n kept (done c) e = not_none (sym e)
   open_none n kept (refuse m i) e = not_none (sym e)
   open_none n kept (ask p w k) e = refl
 
   reads_so : (kept : Option Finished) (left : Run Finished) (list : List Requested) (asked : Option Question) (m : ℕ) (at : Where)
       → Stands σ o kept left list asked m at
-      → report_by (finished_by kept left) ≡ cond (stands_by σ o at) (report_from none (fresh σ o list)) none
+      → report_by (finished_by kept left) ≡ cond (stands_by σ o at) (report_from None (fresh σ o list)) None
   reads_so kept left list asked m (in_run n) s = ap report_by (open_none n kept left s.1.hears)
   reads_so kept left list asked m idle s = ap report_by s.finished ∙ by (reports σ o o.requested)
     where
-      by : (b : Bool) → report_by (cond b (end_of (fresh σ o list)) none) ≡ cond b (report_from none (fresh σ o list)) none
+      by : (b : Bool) → report_by (cond b (end_of (fresh σ o list)) None) ≡ cond b (report_from None (fresh σ o list)) None
       by true = report_end (fresh σ o list)
       by false = refl
   reads_so kept left list asked m (in_edit n e) s = ap report_by (open_none n kept left s.1.hears)
@@ -226,36 +215,36 @@ module _ (σ : Solver) (o : Opening) where
   sized_so distances = refl
   sized_so (new d) = refl
 
-  module _ (ds : List Float) (ms : List Bool) where
-    reply_open : (n : ℕ) (left : Run Finished) → heard o (head left) ≡ some n
-        → cond (right_length n ds ms) takes (declines 9) ≡ taking_reply (sizes_for o) left ds ms
+  module _ (es : List Entry) where
+    reply_open : (n : ℕ) (left : Run Finished) → heard o (head left) ≡ Some n
+        → cond (eqb (length es) n) takes (declines 9) ≡ taking_reply (sizes_for o) left es
     reply_open n (done c) e = not_none (sym e)
     reply_open n (refuse m i) e = not_none (sym e)
     reply_open n (ask p w k) e =
         let same : n ≡ wants (sizes_for o) w = same_some (sym e) ∙ sized_so w in
-        ap (λ (m : ℕ). cond (right_length m ds ms) takes (declines 9)) same
+        ap (λ (m : ℕ). cond (eqb (length es) m) takes (declines 9)) same
       where
-        same_some : {a b : ℕ} → ◌≡◌ {A = Option ℕ} (some a) (some b) → a ≡ b
+        same_some : {a b : ℕ} → ◌≡◌ {A = Option ℕ} (Some a) (Some b) → a ≡ b
         same_some q = cc
 
-    reply_none : (left : Run Finished) → heard o (head left) ≡ none → declines 8 ≡ taking_reply (sizes_for o) left ds ms
+    reply_none : (left : Run Finished) → heard o (head left) ≡ None → declines 8 ≡ taking_reply (sizes_for o) left es
     reply_none (done c) e = refl
     reply_none (refuse m i) e = refl
     reply_none (ask p w k) e = not_none e
 
     reply_so : (kept : Option Finished) (left : Run Finished) (list : List Requested) (asked : Option Question) (m : ℕ) (at : Where)
         → Stands σ o kept left list asked m at
-        → ruled_reply σ o at ds ms ≡ taking_reply (sizes_for o) left ds ms
+        → ruled_reply σ o at es ≡ taking_reply (sizes_for o) left es
     reply_so kept left list asked m (in_run n) s = reply_open n left s.1.hears
     reply_so kept left list asked m idle s = reply_none left s.hears
     reply_so kept left list asked m (in_edit n e) s = reply_open n left s.1.hears
 
-  refusal_open : (n : ℕ) (left : Run Finished) → heard o (head left) ≡ some n → takes ≡ taking_refusal left
+  refusal_open : (n : ℕ) (left : Run Finished) → heard o (head left) ≡ Some n → takes ≡ taking_refusal left
   refusal_open n (done c) e = not_none (sym e)
   refusal_open n (refuse m i) e = not_none (sym e)
   refusal_open n (ask p w k) e = refl
 
-  refusal_none : (left : Run Finished) → heard o (head left) ≡ none → declines 8 ≡ taking_refusal left
+  refusal_none : (left : Run Finished) → heard o (head left) ≡ None → declines 8 ≡ taking_refusal left
   refusal_none (done c) e = refl
   refusal_none (refuse m i) e = refl
   refusal_none (ask p w k) e = not_none e
@@ -277,7 +266,7 @@ module _ (σ : Solver) (o : Opening) where
       ∙ ap (λ (q : Option Finished). taking_edit q e) (sym s.finished)
     where
       by : (b : Bool) → (b ≡ true → reports σ o list ≡ true) → (f : Outcome Finished) → fresh σ o list ≡ f
-          → cond b (cond (placed e (length list)) takes (declines 15)) (declines 14) ≡ taking_edit (cond b (end_of (fresh σ o list)) none) e
+          → cond b (cond (placed e (length list)) takes (declines 15)) (declines 14) ≡ taking_edit (cond b (end_of (fresh σ o list)) None) e
       by false h f q = refl
       by true h (ends c) q =
           let same : length list ≡ length c.requested = ap length (sym (list_kept σ o list c q).0) in
@@ -358,7 +347,7 @@ module _ (σ : Solver) (o : Opening) (t : At) (u : Trail) (a : Agrees σ o t u) 
       by_outcome : (f : Outcome Finished) → fresh σ o list ≡ f → Rests σ o (kept_by t.last) (rest_at o t) list → reports σ o o.requested ≡ true
           → placed e (length list) ≡ true → Changed e (finished_at o t)
       by_outcome (ends c) f s b p =
-          let is : finished_at o t ≡ some c = s.finished ∙ rw (b, f) in
+          let is : finished_at o t ≡ Some c = s.finished ∙ rw (b, f) in
           subst (Changed e) (sym is)
           (record { was = c; was_kept = refl; before = f; reported = b; fits = p; suits = suits_new e c; plays = edit_fresh σ o list c e f p; counted = omega arith })
       by_outcome (refuses n i) f s b p = not_both (sym (s.reported b) ∙ ap is_report f)
@@ -381,14 +370,14 @@ module _ (σ : Solver) (o : Opening) (t : At) (u : Trail) (a : Agrees σ o t u) 
 
   run_taken : (x : Call) → FromSolver σ o u x → ruled σ o u.book x ≡ takes → (n : ℕ) → u.book.at ≡ in_run n
       → RunGoes σ o (kept_by (after_taken o t x).last) (rest_at o (after_taken o t x)) list (replies_with u.replies x)
-  run_taken (reply ds ms) q e n i = run_replied n i (entries (entries_of ds ms)) (replies_so _ _ e q)
+  run_taken (reply es) q e n i = run_replied n i (entries es) (replies_so _ _ e q)
   run_taken refuse_point q e n i = run_replied n i refused (replies_so _ _ e q)
   run_taken (change f) q e n i =
       apart (sym (ap (λ (at : Where). cond (stands_by σ o at) (cond (placed f (length list)) takes (declines 15)) (declines 14)) i) ∙ e)
 
   edit_taken_lem : (x : Call) → FromSolver σ o u x → ruled σ o u.book x ≡ takes → (e : Edit) → Edits u.book x e
       → EditGoes σ o e (kept_by (after_taken o t x).last) (rest_at o (after_taken o t x)) list (replies_with u.replies x)
-  edit_taken_lem (reply ds ms) q e f i = edit_replied i.0 f i.1 (entries (entries_of ds ms)) (replies_so _ _ e q)
+  edit_taken_lem (reply es) q e f i = edit_replied i.0 f i.1 (entries es) (replies_so _ _ e q)
   edit_taken_lem refuse_point q e f i = edit_replied i.0 f i.1 refused (replies_so _ _ e q)
   edit_taken_lem (change g) q e f i =
       subst (λ (f : Edit). EditGoes σ o f (kept_by (after_taken o t (change g)).last) (rest_at o (after_taken o t (change g))) list 0) i (changed g e)
@@ -409,7 +398,7 @@ module _ (σ : Solver) (o : Opening) (t : At) (u : Trail) (a : Agrees σ o t u) 
       by (in_edit n f) i = edit_heard_lem σ o f _ (rest_at o (after_taken o t x)) list _ (edit_taken_lem x q e f (edits n f i))
 
   leads : (x : Call) → FromSolver σ o u x → ruled σ o u.book x ≡ takes → Leads x (call_heard σ o u.book x)
-  leads (reply ds ms) q e = reply_leads (reply ds ms) q e (λ n f i. (n, i)) (ap (λ (at : Where). ruled_reply σ o at ds ms))
+  leads (reply es) q e = reply_leads (reply es) q e (λ n f i. (n, i)) (ap (λ (at : Where). ruled_reply σ o at es))
   leads refuse_point q e = reply_leads refuse_point q e (λ n f i. (n, i)) (ap (ruled_refusal σ o))
   leads (change f) q e = edit_heard_lem σ o f _ (rest_at o (after_taken o t (change f))) list _ (edit_taken_lem (change f) q e f refl)
 
@@ -417,28 +406,28 @@ module _ (σ : Solver) (o : Opening) (t : At) (u : Trail) (a : Agrees σ o t u) 
 
 pub agrees_first : (σ : Solver) (o : Opening) → Agrees σ o first (begun o (head (whole o)))
 agrees_first σ o = record {
-  is = subst (λ (b : Book). StandsBy σ o none (whole o) (noted o b (head (whole o)) 0)) (sym (opened_so σ o (heard o (head (whole o)))))
-      (run_heard_lem σ o none (whole o) o.requested 0 (first_goes σ o));
+  is = subst (λ (b : Book). StandsBy σ o None (whole o) (noted o b (head (whole o)) 0)) (sym (opened_so σ o (heard o (head (whole o)))))
+      (run_heard_lem σ o None (whole o) o.requested 0 (first_goes σ o));
 }
 
 -- the report that stands by the definition stands by the book
 pub stands_by_lem : (σ : Solver) (o : Opening) (t : At) (u : Trail) → Agrees σ o t u → report_by (finished_at o t) ≡ standing_report σ o u.book
 stands_by_lem σ o t u a = reads_so σ o (kept_by t.last) (rest_at o t) u.book.list u.asked u.replies u.book.at a.is
 
-pub opened_stops : (σ : Solver) (o : Opening) → (heard o (head (whole o)) ≡ none) ↔ (0 ≡ questions (host_of σ o) (whole o))
+pub opened_stops : (σ : Solver) (o : Opening) → (heard o (head (whole o)) ≡ None) ↔ (0 ≡ questions (host_of σ o) (whole o))
 opened_stops σ o = stops_so σ o (host_of σ o) (whole o) 0 _ (first_goes σ o).counted
 
 pub agrees_opened : (σ : Solver) (o : Opening)
-    → (heard o (head (whole o)) ≡ none → Ends (fresh σ o o.requested) none (head (whole o)) (λ p. report_by (finished_at o first) ≡ p))
+    → (heard o (head (whole o)) ≡ None → Ends (fresh σ o o.requested) None (head (whole o)) (λ p. report_by (finished_at o first) ≡ p))
     × (report_by (finished_at o first) ≡ standing_report σ o (opened o (heard o (head (whole o)))))
 agrees_opened σ o = (
-  ends_so σ o (host_of σ o) none (whole o) (fresh σ o o.requested) none (first_goes σ o).plays refl,
+  ends_so σ o (host_of σ o) None (whole o) (fresh σ o o.requested) None (first_goes σ o).plays refl,
   stands_by_lem σ o first (begun o (head (whole o)))
       (agrees_first σ o),
 )
 
 pub agrees_ruled : (σ : Solver) (o : Opening) (t : At) (u : Trail) → Agrees σ o t u → (x : Call) → ruled σ o u.book x ≡ stance o t x
-agrees_ruled σ o t u a (reply ds ms) = reply_so σ o ds ms (kept_by t.last) (rest_at o t) u.book.list u.asked u.replies u.book.at a.is
+agrees_ruled σ o t u a (reply es) = reply_so σ o es (kept_by t.last) (rest_at o t) u.book.list u.asked u.replies u.book.at a.is
 agrees_ruled σ o t u a refuse_point = refusal_so σ o (kept_by t.last) (rest_at o t) u.book.list u.asked u.replies u.book.at a.is
 agrees_ruled σ o t u a (change e) = edit_so σ o e (kept_by t.last) (rest_at o t) u.book.list u.asked u.replies u.book.at a.is
 
@@ -446,10 +435,10 @@ module _ (σ : Solver) (o : Opening) (t : At) (u : Trail) (a : Agrees σ o t u) 
   abbrev place_by : Taking → At
   place_by y = unless_declined y t (after_taken o t x)
 
-  abbrev said_to : Taking → Step
+  abbrev said_to : Taking → Said
   said_to y = due y (rest_at o (place_by y))
 
-  abbrev trail_by : Taking → Step → Trail
+  abbrev trail_by : Taking → Said → Trail
   trail_by y said = unless_declined y u (noted o (unless_declined y u.book (call_heard σ o u.book x (heard o said))) said (replies_with u.replies x))
 
   next : Agrees σ o (after_call o t x) (followed σ o u x (due_to o t x))
@@ -461,20 +450,20 @@ module _ (σ : Solver) (o : Opening) (t : At) (u : Trail) (a : Agrees σ o t u) 
       by takes e = record { is = leads σ o t u a x q (agrees_ruled σ o t u a x ∙ e) }
 
   -- the book is that of the trail
-  booked_so : (y : Taking) (said : Step) → unless_declined y u.book (call_heard σ o u.book x (heard o said)) ≡ (trail_by y said).book
+  booked_so : (y : Taking) (said : Said) → unless_declined y u.book (call_heard σ o u.book x (heard o said)) ≡ (trail_by y said).book
   booked_so (declines n) said = refl
   booked_so takes said = refl
 
   -- what holds of the call as taken
-  as_taken : (P : At → Step → Type 0) → ruled σ o u.book x ≡ takes → P (after_taken o t x) (head (rest_at o (after_taken o t x)))
+  as_taken : (P : At → Said → Type 0) → ruled σ o u.book x ≡ takes → P (after_taken o t x) (head (rest_at o (after_taken o t x)))
       → P (after_call o t x) (due_to o t x)
   as_taken P e h = subst (λ (y : Taking). P (place_by y) (said_to y)) (sym (sym (agrees_ruled σ o t u a x) ∙ e)) h
 
-  abbrev EndsSo : Outcome Finished → Option Report → At → Step → Type 0
-  EndsSo f before s said = heard o said ≡ none → Ends f before said (λ p. report_by (finished_at o s) ≡ p)
+  abbrev EndsSo : Outcome Finished → Option Report → At → Said → Type 0
+  EndsSo f before s said = heard o said ≡ None → Ends f before said (λ p. report_by (finished_at o s) ≡ p)
 
-  abbrev StopsSo : ℕ → At → Step → Type 0
-  StopsSo all s said = (heard o said ≡ none) ↔ (replies_with u.replies x ≡ all)
+  abbrev StopsSo : ℕ → At → Said → Type 0
+  StopsSo all s said = (heard o said ≡ None) ↔ (replies_with u.replies x ≡ all)
 
   holds : Holds σ o u x (due_to o t x) (λ p. report_by (finished_at o (after_call o t x)) ≡ p)
   holds =
@@ -494,14 +483,14 @@ module _ (σ : Solver) (o : Opening) (t : At) (u : Trail) (a : Agrees σ o t u) 
             as_taken (StopsSo (questions host (edit c f))) e (stops_so σ o host left _ _ (g.counted ∙ ap (λ (b : Finished). questions host (edit b f)) same));
         run_ends = λ n i e.
             let g = run_taken σ o t u a x q e n i in
-            as_taken (EndsSo (fresh σ o o.requested) none) e
-            (ends_so σ o (host_of σ o) kept left (fresh σ o o.requested) none g.plays (ap report_by g.none_kept));
+            as_taken (EndsSo (fresh σ o o.requested) None) e
+            (ends_so σ o (host_of σ o) kept left (fresh σ o o.requested) None g.plays (ap report_by g.none_kept));
         edit_ends = λ f i e.
             let g = edit_taken_lem σ o t u a x q e f i in
-            let was = report_from none (fresh σ o list) in
+            let was = report_from None (fresh σ o list) in
             as_taken (EndsSo (fresh σ o (edited f list)) was) e
             (ends_so σ o (host_of σ (with_list o list)) kept left (fresh σ o (edited f list)) was g.plays
-            (ap report_by g.was_kept ∙ ap (report_from none) (sym g.before)));
+            (ap report_by g.was_kept ∙ ap (report_from None) (sym g.before)));
         stands = stands_by_lem σ o (after_call o t x) then next ∙ ap (standing_report σ o) (sym b);
         reported = λ h.
             let is : stands_by σ o then.book.at ≡ true = ap (λ (c : Book). stands_by σ o c.at) (sym b) ∙ h in
@@ -520,8 +509,8 @@ agrees_holds σ o t u a x q = holds σ o t u a x q
 
 -- where an edit ends by the book's rules, what is new in the report that stands
 pub agrees_changes : (σ : Solver) (o : Opening) (t : At) (u : Trail) → Agrees σ o t u → (x : Call) → FromSolver σ o u x
-    → (e : Edit) → Edits u.book x e → ruled σ o u.book x ≡ takes → heard o (due_to o t x) ≡ none
+    → (e : Edit) → Edits u.book x e → ruled σ o u.book x ≡ takes → heard o (due_to o t x) ≡ None
     → Ended σ o e (kept_by (after_call o t x).last) (report_by (finished_at o (after_call o t x))) (due_to o t x)
 agrees_changes σ o t u a x q e i r =
-    as_taken σ o t u a x q (λ s said. heard o said ≡ none → Ended σ o e (kept_by s.last) (report_by (finished_at o s)) said) r
+    as_taken σ o t u a x q (λ s said. heard o said ≡ None → Ended σ o e (kept_by s.last) (report_by (finished_at o s)) said) r
     (changes_so σ o e (kept_by (after_taken o t x).last) (rest_at o (after_taken o t x)) u.book.list _ (edit_taken_lem σ o t u a x q r e i))

@@ -3,12 +3,12 @@ use Prim.Native.Nat.{ℕ}
 use mathlib.Core.Path.{refl, ◌∙◌}
 use mathlib.Core.List.{map}
 use lib.Ieee.{round, add, sub, mul, div, lt, le, is_nan, of_bits}
-use Rattle.numeric.specs.Numeric.{finite, abs_of, max_of}
+use Rattle.numeric.specs.Numeric.{within_of, finite, abs_of, max_of}
 use Rattle.definition.specs.Fit.{gradient_norm_of, flat_of, evaluated, iterate, fit_map}
 use Rattle.definition.specs.Likelihood.{chi_square_of, with_prior_of, with_priors_of, valued, objective, mv_step_of, bc_step_of, mv_plus_at, mv_minus_at, bc_plus_at, bc_minus_at}
 use Rattle.definition.specs.Likelihood.{bc_minus, bc_plus, mv_minus, mv_plus, truing_jacobian_rows, complete, accumulate_of, sums_of, with_prior_gradient_of, from_sums}
 use Rattle.definition.specs.Likelihood.{evaluate}
-use Rattle.definition.specs.Whole.{within_of, positive_of, sound_observation_of, sound_prior_of, sound_requested_of, checked_point, checked_count, checked_measured}
+use Rattle.definition.specs.Whole.{positive_of, sound_observation_of, sound_prior_of, sound_requested_of, checked_point, checked_count, checked_measured}
 use Rattle.definition.specs.Whole.{checked_requested, band_rows, baseline, concluded, banded, fitted, run, whole, edit_questions, edit}
 use Rattle.fresh_outcome.specs.Solver.{fresh}
 use Rattle.demands.specs.Example.{solver, opening, call_of, all, Example, ExampleMet}

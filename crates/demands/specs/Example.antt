@@ -1,18 +1,17 @@
 -- An example of demand 3: an opening, a solver, and a host's calls, whose replies come from that solver. One of its edits is refused, and two are taken.
 -- `Example` has its proof, by computation, in proofs/Example.antt, and so has `ExampleMet`.
-use Rattle.std.specs.Prelude.{ℕ, ◌≡◌, true, false, cond, List, [], ◌∷◌, ◌++◌, map, Float}
+use Rattle.std.specs.Prelude.{ℕ, ◌≡◌, true, false, cond, List, [], ◌∷◌, ◌++◌, map, Float, None, Some}
 use Rattle.std.specs.Float.Ieee.{le}
 use Rattle.numeric.specs.Numeric.{zero64}
 use Rattle.definition.specs.Request.{Requested, Opening}
-use Rattle.definition.specs.Run.{Entry, missing, drop}
+use Rattle.definition.specs.Run.{Entry}
 use Rattle.definition.specs.Host as Host
 use Rattle.definition.specs.Whole.{whole, put_in, take_out, exchange, edited}
 use Rattle.definition.specs.Figures.{number, requested}
 use Rattle.definition.specs.RunFigures.{by_mv, by_bc, all_three, entered}
 use Rattle.definition.specs.declared.Point.{Point}
 use Rattle.fresh_outcome.specs.Solver.{Solver, fresh}
-use Rattle.definition.specs.Session.{head}
-use Rattle.definition.specs.declared.Step.{Step}
+use Rattle.definition.specs.Session.{Said, says_of, head}
 use Rattle.definition.specs.declared.Distances.{Distances}
 use Rattle.demands.specs.Calls.{Call, reply, refuse_point, change, At, first, after_call, due_to}
 use Rattle.editing.specs.Meaning.{seen}
@@ -39,10 +38,10 @@ pub data Brief : Type 0 where
   reports : Brief
   refuses : ℕ → ℕ → Brief
 
-abbrev pub brief : Step → Brief
-brief (Step.Question mv bc list) = asks list
-brief Step.Report = reports
-brief (Step.Refused n i) = refuses n i
+abbrev pub brief : Said → Brief
+brief (Said.question mv bc list) = asks list
+brief Said.report = reports
+brief (Said.refusal n i) = refuses n i
 
 abbrev pub told : Opening → At → List Call → List Brief
 told o t [] = []
@@ -52,7 +51,7 @@ told o t (x ∷ xs) = brief (due_to o t x) ∷ told o (after_call o t x) xs
 
 -- up to 100 yards the drop follows the speed, up to 200 the coefficient, up to 300 neither; farther off there is none
 abbrev pub drop_at : Point → Float → Entry
-drop_at p d = cond (le d (number 100)) (by_mv p) (cond (le d (number 200)) (by_bc p) (cond (le d (number 300)) (drop (number 32)) missing))
+drop_at p d = cond (le d (number 100)) (by_mv p) (cond (le d (number 200)) (by_bc p) (cond (le d (number 300)) (Some (number 32)) None))
 
 abbrev pub solver : Solver
 solver = record { refuses = λ p. false; drops = drop_at }
@@ -74,16 +73,16 @@ abbrev pub brief_of : Line → Brief
 brief_of (x gets said) = said
 
 abbrev pub one : ℕ → Call
-one a = reply (number a ∷ []) (false ∷ [])
+one a = reply (Some (number a) ∷ [])
 
 abbrev pub two : ℕ → ℕ → Call
-two a b = reply (number a ∷ number b ∷ []) (false ∷ false ∷ [])
+two a b = reply (Some (number a) ∷ Some (number b) ∷ [])
 
 abbrev pub three : ℕ → ℕ → ℕ → Call
-three a b c = reply (number a ∷ number b ∷ number c ∷ []) (false ∷ false ∷ false ∷ [])
+three a b c = reply (Some (number a) ∷ Some (number b) ∷ Some (number c) ∷ [])
 
 abbrev pub gap : Call
-gap = reply (zero64 ∷ []) (true ∷ [])
+gap = reply (None ∷ [])
 
 -- The run: one objective, five questions of the fit, five at the fit, five about the requested distances, and the baseline. In it an edit and a reply of one
 -- entry are declined, and after it two replies and an edit beyond the list.
@@ -166,5 +165,5 @@ pub record Example : Type 0 where
 -- Theorem `example_met`: whatever meets the contracts says that to these calls, and then the hypothesis of demand 3 holds of them.
 abbrev pub ExampleMet : Type 0
 ExampleMet =
-    (a : Answer) → Opened seen opening a.step a.session → (cs : List Made) → Chained a cs → map (λ c. c.call) cs ≡ map call_of all
-    → (map (λ c. brief c.answer.step) cs ≡ map brief_of all) × AllFrom solver opening (begun opening a.step) cs
+    (a : Answer) → Opened seen opening (says_of a.step) a.session → (cs : List Made) → Chained a cs → map (λ c. c.call) cs ≡ map call_of all
+    → (map (λ c. brief (says_of c.answer.step)) cs ≡ map brief_of all) × AllFrom solver opening (begun opening (says_of a.step)) cs

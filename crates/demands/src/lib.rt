@@ -3,42 +3,33 @@
 #![tactic(auto)]
 
 ghost use Rattle.std.specs.Prelude.{◌≡◌};
-ghost use Rattle.definition.specs.Meaning.{requested_of};
+ghost use Rattle.definition.specs.Meaning.{opening_in};
 ghost use Rattle.definition.specs.Whole as Edit;
-ghost use Rattle.opening.specs.Opening.{opening_of};
 ghost use Rattle.editing.specs.Meaning.{state, seen};
-ghost use Rattle.definition.specs.Session.{Opened};
+ghost use Rattle.definition.specs.Session.{says_of, Opened};
 ghost use Rattle.report.specs.Reading.{ReportRead, ResultRead, BaselineResultRead, BandRead};
 ghost use Rattle.demands.specs.Calls as Call;
 ghost use Rattle.demands.specs.Demands.{Meets, count};
 
-use definition::{Number, Point, TruingPriorsV1};
+use bands::TruingPredictiveBandV1;
+use definition::{
+    TruingPredictionRequestV1, UncertaintyTruingRequestV1, WeightedTruingObservationResultV1,
+};
 use editing::{Answer, Session};
-use report::{BandAt, ResultAt, Shown};
+use report::UncertaintyTruingReportV1;
 
 // ---- the calls
 
-pub fn open<'a>(
-    entered: Point,
-    ranges: &'a [f64],
-    drops: &'a [f64],
-    sigmas: &'a [f64],
-    priors: TruingPriorsV1,
-    distances: &'a [f64],
-    future: &'a [f64],
-    given: &'a [bool],
-) -> Answer
-    ensures { Opened seen (opening_of entered ranges.now drops.now sigmas.now priors distances.now future.now given.now) result.step result.session }
+pub fn open(request: UncertaintyTruingRequestV1<'_>) -> Answer
+    ensures { Opened seen (opening_in request.entry) (says_of result.step) result.session }
 {
-    editing::open(
-        entered, ranges, drops, sigmas, priors, distances, future, given,
-    )
+    editing::open(request)
 }
 
-pub fn reply<'a>(s: Session, reply: &'a [f64], missing: &'a [bool]) -> Answer
-    ensures { Meets (Call.reply reply.now missing.now) s result }
+pub fn reply(s: Session, entries: &[Option<f64>]) -> Answer
+    ensures { Meets (Call.reply entries.now) s result }
 {
-    editing::reply(s, reply, missing)
+    editing::reply(s, entries)
 }
 
 pub fn refuse(s: Session) -> Answer
@@ -47,10 +38,10 @@ pub fn refuse(s: Session) -> Answer
     editing::refuse(s)
 }
 
-pub fn put_in(s: Session, place: usize, range: f64, sigma: Number) -> Answer
-    ensures { Meets (Call.change (Edit.put_in place (requested_of range sigma))) s result }
+pub fn put_in(s: Session, place: usize, entry: TruingPredictionRequestV1) -> Answer
+    ensures { Meets (Call.change (Edit.put_in place entry)) s result }
 {
-    editing::put_in(s, place, range, sigma)
+    editing::put_in(s, place, entry)
 }
 
 pub fn take_out(s: Session, place: usize) -> Answer
@@ -59,10 +50,10 @@ pub fn take_out(s: Session, place: usize) -> Answer
     editing::take_out(s, place)
 }
 
-pub fn exchange(s: Session, place: usize, range: f64, sigma: Number) -> Answer
-    ensures { Meets (Call.change (Edit.exchange place (requested_of range sigma))) s result }
+pub fn exchange(s: Session, place: usize, entry: TruingPredictionRequestV1) -> Answer
+    ensures { Meets (Call.change (Edit.exchange place entry)) s result }
 {
-    editing::exchange(s, place, range, sigma)
+    editing::exchange(s, place, entry)
 }
 
 // ---- reading
@@ -73,25 +64,25 @@ pub fn asked(s: Session) -> u64
     editing::asked(s)
 }
 
-pub fn report(s: Session) -> Shown
+pub fn report(s: Session) -> Option<UncertaintyTruingReportV1>
     ensures { ReportRead (state s) result }
 {
     editing::report(s)
 }
 
-pub fn observation_result(s: Session, i: usize) -> ResultAt
+pub fn observation_result(s: Session, i: usize) -> Option<WeightedTruingObservationResultV1>
     ensures { ResultRead (state s) i result }
 {
     editing::observation_result(s, i)
 }
 
-pub fn baseline_result(s: Session, i: usize) -> ResultAt
+pub fn baseline_result(s: Session, i: usize) -> Option<WeightedTruingObservationResultV1>
     ensures { BaselineResultRead (state s) i result }
 {
     editing::baseline_result(s, i)
 }
 
-pub fn predictive_band(s: Session, i: usize) -> BandAt
+pub fn predictive_band(s: Session, i: usize) -> Option<TruingPredictiveBandV1>
     ensures { BandRead (state s) i result }
 {
     editing::predictive_band(s, i)

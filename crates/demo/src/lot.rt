@@ -1,97 +1,121 @@
 // The bundled lot: twelve shots, the entered point, a prior of the speed and three requested distances. Nobody fired the shots: each is the solver's drop with
 // a made-up deviation added.
-use definition::{NormalPriorV1, Point, Prior, TruingPriorsV1};
-use editing::Answer;
+ghost use Rattle.std.specs.Prelude.{◌≡◌};
+
+use definition::{
+    NormalPriorV1, Point, TruingPredictionRequestV1, TruingPriorsV1, UncertaintyTruingRequestV1,
+    WeightedTruingObservationV1,
+};
 use numeric::DropUnit;
 
 // The shots' drops are the solver's at this point, in feet per second and as a coefficient.
-pub const TRUE_SPEED: f64 = 2750.0;
+pub const TRUE_POINT: Point = Point {
+    mv: 2750.0,
+    bc: 0.31,
+};
 
-pub const TRUE_COEFFICIENT: f64 = 0.31;
+// What is entered before the shots are looked at: a speed and a coefficient somewhat off.
+pub const ENTERED: Point = Point {
+    mv: 2700.0,
+    bc: 0.29,
+};
+
+// The speed as a chronograph has it.
+pub const SPEED_PRIOR: NormalPriorV1 = NormalPriorV1 {
+    mean: 2735.0,
+    sigma: 25.0,
+};
 
 // Distances in yards, drops in inches.
 #[derive(Clone, Copy)]
 pub struct Lot {
-    pub ranges: [f64; 12],
-    pub drops: [f64; 12],
-    pub sigmas: [f64; 12],
-    pub distances: [f64; 3],
-    pub future: [f64; 3],
-    pub given: [bool; 3],
+    pub shots: [WeightedTruingObservationV1; 12],
+    pub requested: [TruingPredictionRequestV1; 3],
 }
 
-// What is entered before the shots are looked at: a speed and a coefficient somewhat off.
-pub fn entered() -> Point {
-    Point {
-        mv: 2700.0,
-        bc: 0.29,
+// A shot before its drop is known: its distance and sigma, and a deviation in place of an error of measurement.
+fn shot(range_yd: f64, sigma: f64, deviation: f64) -> WeightedTruingObservationV1 {
+    WeightedTruingObservationV1 {
+        range_yd,
+        drop: deviation,
+        sigma,
     }
 }
 
-// The speed as a chronograph has it.
-pub fn speed_prior() -> NormalPriorV1 {
-    NormalPriorV1 {
-        mean: 2735.0,
-        sigma: 25.0,
+fn request(range_yd: f64, future_observation_sigma: Option<f64>) -> TruingPredictionRequestV1 {
+    TruingPredictionRequestV1 {
+        range_yd,
+        future_observation_sigma,
     }
 }
 
-pub fn priors() -> TruingPriorsV1 {
-    let speed = speed_prior();
-    TruingPriorsV1 {
-        muzzle_velocity_fps: Prior::Normal(speed),
-        ballistic_coefficient: Prior::Absent,
+// The solver's drops with the deviation, in inches, added to each.
+fn measured(deviating: [WeightedTruingObservationV1; 12]) -> [WeightedTruingObservationV1; 12] {
+    let mut shots = deviating;
+    for shot in shots.iter_mut() {
+        let mut entry = [None];
+        point_mass::fill(TRUE_POINT, DropUnit::In, &[shot.range_yd], &mut entry);
+        shot.drop += entry[0].unwrap_or(0.0);
     }
-}
-
-// The solver's drops with a deviation, in inches, added to each.
-fn measured(ranges: [f64; 12], deviations: [f64; 12]) -> [f64; 12] {
-    let p = Point {
-        mv: TRUE_SPEED,
-        bc: TRUE_COEFFICIENT,
-    };
-    let mut drops = [0.0; 12];
-    let mut missing = [false; 12];
-    point_mass::fill(p, DropUnit::In, &ranges, &mut drops, &mut missing);
-    let mut i = 0usize;
-    while i < 12 {
-        drops[i] = drops[i] + deviations[i];
-        i += 1;
-    }
-    drops
+    shots
 }
 
 pub fn sample() -> Lot {
-    let ranges = [
-        100.0, 200.0, 250.0, 300.0, 350.0, 400.0, 450.0, 500.0, 550.0, 600.0, 650.0, 700.0,
+    // The deviations, in inches: numbers made up for this lot, six of each sign, each below its shot's sigma.
+    let deviating = [
+        shot(100.0, 0.4, 0.25),
+        shot(200.0, 0.6, -0.45),
+        shot(250.0, 0.7, 0.3),
+        shot(300.0, 0.9, 0.8),
+        shot(350.0, 1.0, -0.9),
+        shot(400.0, 1.2, 0.4),
+        shot(450.0, 1.4, -1.1),
+        shot(500.0, 1.6, 1.3),
+        shot(550.0, 1.8, -0.6),
+        shot(600.0, 2.0, -1.9),
+        shot(650.0, 2.3, 2.1),
+        shot(700.0, 2.6, -1.2),
     ];
-    let sigmas = [0.4, 0.6, 0.7, 0.9, 1.0, 1.2, 1.4, 1.6, 1.8, 2.0, 2.3, 2.6];
-    // In inches, in place of errors of measurement: numbers made up for this lot, six of each sign, each below its shot's sigma.
-    let deviations = [
-        0.25, -0.45, 0.3, 0.8, -0.9, 0.4, -1.1, 1.3, -0.6, -1.9, 2.1, -1.2,
-    ];
-    let drops = measured(ranges, deviations);
     Lot {
-        ranges,
-        drops,
-        sigmas,
-        distances: [375.0, 625.0, 900.0],
-        future: [1.1, 2.1, 0.0],
-        given: [true, true, false],
+        shots: measured(deviating),
+        requested: [
+            request(375.0, Some(1.1)),
+            request(625.0, Some(2.1)),
+            request(900.0, None),
+        ],
     }
 }
 
-pub fn opened(lot: Lot) -> Answer {
-    let p = entered();
-    let prior = priors();
-    editing::open(
-        p,
-        &lot.ranges,
-        &lot.drops,
-        &lot.sigmas,
-        prior,
-        &lot.distances,
-        &lot.future,
-        &lot.given,
-    )
+impl Lot {
+    pub fn shot_ranges(&self) -> [f64; 12] {
+        let mut ranges = [0.0; 12];
+        for i in 0..12 {
+            ranges[i] = self.shots[i].range_yd;
+        }
+        ranges
+    }
+
+    pub fn requested_ranges(&self) -> [f64; 3] {
+        let mut ranges = [0.0; 3];
+        for i in 0..3 {
+            ranges[i] = self.requested[i].range_yd;
+        }
+        ranges
+    }
+
+    pub fn request(&self) -> UncertaintyTruingRequestV1<'_>
+        ensures entered { result.entered ≡ ENTERED }
+        ensures observations { result.observations.now ≡ self.now.shots }
+        ensures predictions { result.predictions.now ≡ self.now.requested }
+    {
+        UncertaintyTruingRequestV1 {
+            entered: ENTERED,
+            observations: &self.shots,
+            priors: TruingPriorsV1 {
+                muzzle_velocity_fps: Some(SPEED_PRIOR),
+                ballistic_coefficient: None,
+            },
+            predictions: &self.requested,
+        }
+    }
 }

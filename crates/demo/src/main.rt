@@ -27,46 +27,29 @@ fn say_heading(rt: &HostRuntime) -> io::Result<()> {
         b"its sigma. The solver is no part of the estimator. The point that they were made at:\n",
     )?;
     say::text(rt, b"                    ")?;
-    say::column(rt, lot::TRUE_SPEED)?;
-    say::column(rt, lot::TRUE_COEFFICIENT)?;
+    say::column(rt, lot::TRUE_POINT.mv)?;
+    say::column(rt, lot::TRUE_POINT.bc)?;
     say::text(rt, b"\n\n")
 }
 
 // So many questions are shown with their replies.
 const SHOWN: usize = 3;
 
-// The solver's reply about the twelve shots.
-fn reply_shots(
+// The solver's reply about these distances, at most twelve, said where it is to be shown.
+fn reply(
     rt: &HostRuntime,
     s: Session,
     p: Point,
-    ranges: [f64; 12],
+    ranges: &[f64],
     shown: bool,
 ) -> io::Result<Answer> {
-    let mut drops = [0.0; 12];
-    let mut missing = [false; 12];
-    point_mass::fill(p, DropUnit::In, &ranges, &mut drops, &mut missing);
+    let mut places = [None; 12];
+    point_mass::fill(p, DropUnit::In, ranges, &mut places);
+    let entries = slices::first_places(&places, ranges.len());
     if shown {
-        protocol::say_reply(rt, &drops, &missing)?;
+        protocol::say_reply(rt, entries)?;
     }
-    Ok(editing::reply(s, &drops, &missing))
-}
-
-// The solver's reply about the three requested distances.
-fn reply_distances(
-    rt: &HostRuntime,
-    s: Session,
-    p: Point,
-    distances: [f64; 3],
-    shown: bool,
-) -> io::Result<Answer> {
-    let mut drops = [0.0; 3];
-    let mut missing = [false; 3];
-    point_mass::fill(p, DropUnit::In, &distances, &mut drops, &mut missing);
-    if shown {
-        protocol::say_reply(rt, &drops, &missing)?;
-    }
-    Ok(editing::reply(s, &drops, &missing))
+    Ok(editing::reply(s, entries))
 }
 
 // A point that is not sane is refused; else each distance of the question gets its drop.
@@ -75,16 +58,15 @@ fn answered(
     s: Session,
     p: Point,
     list: Distances,
-    ranges: [f64; 12],
-    distances: [f64; 3],
+    lot: &Lot,
     shown: bool,
 ) -> io::Result<Answer> {
     if !point_mass::is_sane(p) {
         return Ok(editing::refuse(s));
     }
     match list {
-        Distances::Shots => reply_shots(rt, s, p, ranges, shown),
-        Distances::Requested => reply_distances(rt, s, p, distances, shown),
+        Distances::Shots => reply(rt, s, p, &lot.shot_ranges(), shown),
+        Distances::Requested => reply(rt, s, p, &lot.requested_ranges(), shown),
         Distances::New => Ok(editing::refuse(s)),
     }
 }
@@ -93,70 +75,47 @@ fn answered(
 fn conversation(
     rt: &HostRuntime,
     opened: Answer,
-    ranges: [f64; 12],
-    distances: [f64; 3],
+    lot: &Lot,
     most: usize,
     shown: bool,
 ) -> io::Result<Answer> {
     let mut a = opened;
-    let mut put = 0usize;
-    while put < most {
-        let step = a.step;
-        let Step::Question(mv, bc, list) = step else {
+    for _ in 0..most {
+        let Step::Question(mv, bc, list) = a.step else {
             break;
         };
         if shown {
             protocol::say_answer(rt, a)?;
         }
-        a = answered(
-            rt,
-            a.session,
-            Point { mv, bc },
-            list,
-            ranges,
-            distances,
-            shown,
-        )?;
-        put += 1;
+        a = answered(rt, a.session, Point { mv, bc }, list, lot, shown)?;
     }
     Ok(a)
 }
 
 // The request and the beginning of the conversation, which is held once more for it.
-fn say_beginning(rt: &HostRuntime, lot: Lot, opened: Answer) -> io::Result<()> {
-    let ranges = lot.ranges;
-    let distances = lot.distances;
+fn say_beginning(rt: &HostRuntime, lot: &Lot, opened: Answer) -> io::Result<()> {
     say::text(
         rt,
         b"\nThe lines behind it, as docs/PROTOCOL.md has them. The request:\n",
     )?;
     protocol::say_request(rt, lot)?;
     say::text(rt, b"\nThe conversation begins:\n")?;
-    let _begun = conversation(rt, opened, ranges, distances, SHOWN, true)?;
+    let _begun = conversation(rt, opened, lot, SHOWN, true)?;
     Ok(())
 }
 
 fn say_end(rt: &HostRuntime, last: Answer) -> io::Result<()> {
-    say::count(rt, b"and goes on, ", editing::asked(last.session))?;
-    say::text(rt, b" questions in all. The answer:\n")?;
+    let asked = editing::asked(last.session);
+    println!(rt; "and goes on, {asked} questions in all. The answer:")?;
     protocol::say_answer(rt, last)
 }
 
 fn main(rt: HostRuntime) -> io::Result<()> {
     let sample = lot::sample();
-    let ranges = sample.ranges;
-    let distances = sample.distances;
-    let opened = lot::opened(sample);
-    let last = conversation(
-        &rt,
-        opened,
-        ranges,
-        distances,
-        editing::MAX_QUESTIONS,
-        false,
-    )?;
+    let opened = editing::open(sample.request());
+    let last = conversation(&rt, opened, &sample, editing::MAX_QUESTIONS, false)?;
     say_heading(&rt)?;
     meaning::say_answer(&rt, last)?;
-    say_beginning(&rt, sample, opened)?;
+    say_beginning(&rt, &sample, opened)?;
     say_end(&rt, last)
 }

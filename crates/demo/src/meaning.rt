@@ -2,14 +2,13 @@
 use crate::say;
 use bands::TruingPredictiveBandV1;
 use definition::{
-    Number, Step, TruingApproximationFailureCodeV1, TruingApproximationV1,
+    Refusal, RefusalCode, Step, TruingApproximationFailureCodeV1, TruingApproximationV1,
     TruingMapConvergenceCriterionV1, WeightedTruingObservationResultV1,
 };
 use editing::{Answer, Session};
-use interval::Interval;
-use report::{BandAt, Baseline, ResultAt, Shown, UncertaintyTruingReportV1};
+use report::{TruingBaselineV1, UncertaintyTruingReportV1};
 use std::io;
-use summary::{Criterion, TruingUncertaintyDiagnosticsV1};
+use summary::TruingUncertaintyDiagnosticsV1;
 use warnings::Warnings;
 
 // ---- the page
@@ -44,8 +43,8 @@ fn say_failure(rt: &HostRuntime, code: TruingApproximationFailureCodeV1) -> io::
 
 fn say_approximation(rt: &HostRuntime, a: TruingApproximationV1) -> io::Result<()> {
     match a {
-        TruingApproximationV1::Available(_, _) => say::text(rt, b""),
-        TruingApproximationV1::Unavailable(code) => {
+        Ok(_) => Ok(()),
+        Err(code) => {
             say::text(rt, b"There are no 95 % intervals: ")?;
             say_failure(rt, code)
         }
@@ -67,20 +66,23 @@ fn say_how(rt: &HostRuntime, criterion: TruingMapConvergenceCriterionV1) -> io::
     }
 }
 
-fn say_convergence(rt: &HostRuntime, c: Criterion) -> io::Result<()> {
-    match c {
-        Criterion::Absent => say::text(rt, b"The fit did not converge.\n"),
-        Criterion::Given(criterion) => say_how(rt, criterion),
+fn say_convergence(
+    rt: &HostRuntime,
+    criterion: Option<TruingMapConvergenceCriterionV1>,
+) -> io::Result<()> {
+    match criterion {
+        None => say::text(rt, b"The fit did not converge.\n"),
+        Some(criterion) => say_how(rt, criterion),
     }
 }
 
-fn say_reduced(rt: &HostRuntime, reduced: Number) -> io::Result<()> {
+fn say_reduced(rt: &HostRuntime, reduced: Option<f64>) -> io::Result<()> {
     match reduced {
-        Number::Absent => say::text(
+        None => say::text(
             rt,
             b"There are too few shots to judge the fit by its chi-square.\n",
         ),
-        Number::Given(x) => {
+        Some(x) => {
             say::text(
                 rt,
                 b"Chi-square per degree of freedom, about 1 where the sigmas are right:\n",
@@ -93,20 +95,18 @@ fn say_reduced(rt: &HostRuntime, reduced: Number) -> io::Result<()> {
 }
 
 fn say_fit(rt: &HostRuntime, d: TruingUncertaintyDiagnosticsV1) -> io::Result<()> {
-    let criterion = d.map_convergence_criterion;
-    let reduced = d.reduced_chi_square;
-    say_convergence(rt, criterion)?;
-    say_reduced(rt, reduced)
+    say_convergence(rt, d.map_convergence_criterion)?;
+    say_reduced(rt, d.reduced_chi_square)
 }
 
 // The entered point, for comparison.
-fn say_baseline(rt: &HostRuntime, b: Baseline) -> io::Result<()> {
+fn say_baseline(rt: &HostRuntime, b: Option<TruingBaselineV1>) -> io::Result<()> {
     match b {
-        Baseline::Absent => say::text(
+        None => say::text(
             rt,
             b"The solver has no flight at the entered point to compare with.\n",
         ),
-        Baseline::Given(g) => {
+        Some(g) => {
             say::text(
                 rt,
                 b"The entered speed and coefficient, and chi-square there:\n",
@@ -114,61 +114,44 @@ fn say_baseline(rt: &HostRuntime, b: Baseline) -> io::Result<()> {
             say::row(
                 rt,
                 b"entered             ",
-                g.muzzle_velocity_fps,
-                g.ballistic_coefficient,
-                g.chi_square,
+                &[g.muzzle_velocity_fps, g.ballistic_coefficient, g.chi_square],
             )
         }
     }
 }
 
-// ---- the shots
+// ---- the lists
 
 fn say_result(rt: &HostRuntime, o: WeightedTruingObservationResultV1) -> io::Result<()> {
     say::row(
         rt,
         b"shot                ",
-        o.range_yd,
-        o.sigma,
-        o.standardized_residual,
+        &[o.range_yd, o.sigma, o.standardized_residual],
     )
 }
 
-fn say_results(rt: &HostRuntime, s: Session, n: usize) -> io::Result<()> {
-    let mut i = 0usize;
-    while i < n {
-        let found = editing::observation_result(s, i);
-        let ResultAt::Given(o) = found else {
-            return Ok(());
-        };
-        say_result(rt, o)?;
-        i += 1;
-    }
-    Ok(())
-}
-
-// ---- the requested distances
-
 // The interval of one more shot, where there is one.
 fn say_band(rt: &HostRuntime, b: TruingPredictiveBandV1) -> io::Result<()> {
-    let future = b.future_observation_interval_95;
-    match future {
-        Interval::Absent => say::text(rt, b""),
-        Interval::Present(g) => {
-            say::row(rt, b"distance            ", b.range_yd, g.lower, g.upper)
-        }
+    match b.future_observation_interval_95 {
+        None => Ok(()),
+        Some(g) => say::row(rt, b"distance            ", &[b.range_yd, g.lower, g.upper]),
     }
 }
 
-fn say_bands(rt: &HostRuntime, s: Session, n: usize) -> io::Result<()> {
-    let mut i = 0usize;
-    while i < n {
-        let found = editing::predictive_band(s, i);
-        let BandAt::Given(b) = found else {
-            return Ok(());
-        };
-        say_band(rt, b)?;
-        i += 1;
+// Each of a list that is read place by place, up to n of it.
+fn say_each<T, R: Fn(usize) -> Option<T>, S: Fn(T) -> io::Result<()>>(
+    n: usize,
+    read: R,
+    said: S,
+) -> io::Result<()>
+    requires reads { R.IsAlwaysCallable read }
+    requires says { S.IsAlwaysCallable said }
+{
+    for i in 0..n {
+        match read(i) {
+            Some(item) => said(item)?,
+            None => return Ok(()),
+        }
     }
     Ok(())
 }
@@ -250,10 +233,6 @@ fn say_warnings(rt: &HostRuntime, w: Warnings) -> io::Result<()> {
 
 // What the page says, and then in plain words what it does not.
 fn say_report(rt: &HostRuntime, s: Session, r: UncertaintyTruingReportV1) -> io::Result<()> {
-    let approximation = r.approximation;
-    let diagnostics = r.diagnostics;
-    let baseline = r.baseline;
-    let found = r.warnings;
     say::text(
         rt,
         b"The page for the counter, in feet per second, yards and inches. After a fitted value, and after\n",
@@ -265,75 +244,71 @@ fn say_report(rt: &HostRuntime, s: Session, r: UncertaintyTruingReportV1) -> io:
     say::text(rt, b"the measured drop and that of the fit.\n\n")?;
     say_page(rt, s)?;
     say::text(rt, b"\n")?;
-    say_approximation(rt, approximation)?;
-    say_fit(rt, diagnostics)?;
-    say_baseline(rt, baseline)?;
+    say_approximation(rt, r.approximation)?;
+    say_fit(rt, r.diagnostics)?;
+    say_baseline(rt, r.baseline)?;
     say::text(
         rt,
         b"\nEach shot's distance and sigma, and its residual (the fit's drop less the measured one) over it:\n",
     )?;
-    say_results(rt, s, r.observations)?;
+    say_each(
+        r.observations,
+        |i| editing::observation_result(s, i),
+        |o| say_result(rt, o),
+    )?;
     say::text(
         rt,
         b"\nThe 95 % interval of one more shot's drop, where its sigma was given:\n",
     )?;
-    say_bands(rt, s, r.predictive_bands)?;
+    say_each(
+        r.predictive_bands,
+        |i| editing::predictive_band(s, i),
+        |b| say_band(rt, b),
+    )?;
     say::text(rt, b"\n")?;
-    say_warnings(rt, found)
+    say_warnings(rt, r.warnings)
 }
 
 fn say_shown(rt: &HostRuntime, s: Session) -> io::Result<()> {
     match editing::report(s) {
-        Shown::Absent => say::text(rt, b"No report stands.\n"),
-        Shown::Given(r) => say_report(rt, s, r),
+        None => say::text(rt, b"No report stands.\n"),
+        Some(r) => say_report(rt, s, r),
     }
 }
 
-fn say_reason_of_the_request(rt: &HostRuntime, number: usize) -> io::Result<()> {
-    match number {
-        1 => say::text(rt, b"the entered speed or coefficient is out of range"),
-        2 => say::text(rt, b"there are fewer than two shots"),
-        3 => say::text(rt, b"there are more than 64 shots"),
-        4 => say::text(rt, b"a shot has a distance, drop or sigma that cannot be"),
-        5 => say::text(rt, b"a prior is out of range"),
-        6 => say::text(rt, b"there are more than 64 requested distances"),
-        _ => say::text(rt, b"a requested distance or its sigma cannot be"),
-    }
+fn say_reason(rt: &HostRuntime, code: RefusalCode) -> io::Result<()> {
+    let reason: &[u8] = match code {
+        RefusalCode::FaultyPoint => b"the entered speed or coefficient is out of range",
+        RefusalCode::TooFewObservations => b"there are fewer than two shots",
+        RefusalCode::TooManyObservations => b"there are more than 64 shots",
+        RefusalCode::FaultyObservation => b"a shot has a distance, drop or sigma that cannot be",
+        RefusalCode::FaultyPrior => b"a prior is out of range",
+        RefusalCode::TooManyDistances => b"there are more than 64 requested distances",
+        RefusalCode::FaultyDistance => b"a requested distance or its sigma cannot be",
+        RefusalCode::PointRefused => b"the solver refused a point that the fit came to",
+        RefusalCode::ObservationMissing => b"the solver has no drop for a shot",
+        RefusalCode::ObjectiveNotFinite => b"the misfit grew beyond all bounds",
+        RefusalCode::DistanceMissing => b"the solver has no drop at a requested distance",
+        RefusalCode::NoQuestionOpen
+        | RefusalCode::WrongEntryCount
+        | RefusalCode::NoFinishedReport
+        | RefusalCode::NoSuchPlace => b"the call was not due",
+    };
+    say::text(rt, reason)
 }
 
-fn say_reason_of_the_run(rt: &HostRuntime, number: usize) -> io::Result<()> {
-    match number {
-        10 => say::text(rt, b"the solver refused a point that the fit came to"),
-        11 => say::text(rt, b"the solver has no drop for a shot"),
-        12 => say::text(rt, b"the misfit grew beyond all bounds"),
-        13 => say::text(rt, b"the solver has no drop at a requested distance"),
-        _ => say::text(rt, b"the call was not due"),
-    }
-}
-
-fn say_reason(rt: &HostRuntime, number: usize) -> io::Result<()> {
-    if number < 8 {
-        say_reason_of_the_request(rt, number)?;
-    } else {
-        say_reason_of_the_run(rt, number)?;
-    }
-    Ok(())
-}
-
-fn say_refused(rt: &HostRuntime, number: usize, position: usize) -> io::Result<()> {
+fn say_refused(rt: &HostRuntime, refusal: Refusal) -> io::Result<()> {
+    let number = refusal.code.number();
+    let position = refusal.position;
     say::text(rt, b"There is no report, because ")?;
-    say_reason(rt, number)?;
-    say::count(rt, b" (number ", number as u64)?;
-    say::count(rt, b", position ", position as u64)?;
-    say::text(rt, b").\n")
+    say_reason(rt, refusal.code)?;
+    println!(rt; " (number {number}, position {position}).")
 }
 
 pub fn say_answer(rt: &HostRuntime, a: Answer) -> io::Result<()> {
-    let s = a.session;
-    let step = a.step;
-    match step {
-        Step::Question(_mv, _bc, _list) => say::text(rt, b"A question is still open.\n"),
-        Step::Report => say_shown(rt, s),
-        Step::Refused(number, position) => say_refused(rt, number, position),
+    match a.step {
+        Step::Question(_, _, _) => say::text(rt, b"A question is still open.\n"),
+        Step::Report => say_shown(rt, a.session),
+        Step::Refused(refusal) => say_refused(rt, refusal),
     }
 }

@@ -7,27 +7,21 @@ pub fn text(rt: &HostRuntime, s: &[u8]) -> io::Result<()> {
 
 // The first `end` bytes.
 pub fn first(rt: &HostRuntime, out: &[u8], end: usize) -> io::Result<()> {
-    text(rt, slices::first_bytes(out, end))
-}
-
-// Words and a count.
-pub fn count(rt: &HostRuntime, before: &[u8], n: u64) -> io::Result<()> {
-    text(rt, before)?;
-    print!(rt; "{n}")
+    text(rt, slices::first_places(out, end))
 }
 
 // A number in the 14 columns that a page has for it.
 pub fn column(rt: &HostRuntime, x: f64) -> io::Result<()> {
     let mut columns = [b' '; 14];
-    let next = page_text::put_number(&mut columns, 0, x);
+    let _next = page_text::put_number(&mut columns, 0, x);
     text(rt, &columns)
 }
 
-// A label in its 20 columns, and three numbers, as in a line of a page.
-pub fn row(rt: &HostRuntime, label: &[u8], a: f64, b: f64, c: f64) -> io::Result<()> {
+// A label in its 20 columns, and numbers, as in a line of a page.
+pub fn row(rt: &HostRuntime, label: &[u8], numbers: &[f64]) -> io::Result<()> {
     text(rt, label)?;
-    column(rt, a)?;
-    column(rt, b)?;
-    column(rt, c)?;
+    for x in numbers {
+        column(rt, *x)?;
+    }
     text(rt, b"\n")
 }

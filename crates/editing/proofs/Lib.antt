@@ -1,3 +1,1 @@
-pub mod Contracts
 pub mod Laws
-pub mod Calls

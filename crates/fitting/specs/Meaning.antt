@@ -1,5 +1,5 @@
 -- What the numbers of a fit stand for: what is left of the run, for every request.
-use Rattle.std.specs.Prelude.{ℕ, ◌-◌, ◌≡◌, List, Float}
+use Rattle.std.specs.Prelude.{ℕ, ◌-◌, ◌≡◌, List, Float, None}
 use Rattle.numeric.specs.Numeric.{zero64}
 use Rattle.matrix.specs.declared.Symmetric2.{Symmetric2}
 use Rattle.definition.specs.Request.{Requested, Measured}
@@ -12,7 +12,6 @@ use Rattle.definition.specs.Summary.{Finished}
 use Rattle.definition.specs.Whole as whole
 use Rattle.definition.specs.declared.Point.{Point}
 use Rattle.definition.specs.declared.Evaluation.{Evaluation}
-use Rattle.definition.specs.declared.Convergence.TheVariants.{NotConverged}
 use Rattle.definition.specs.Meaning.{convergence_of}
 use Rattle.objective_mesh.specs.Meaning.{pass_of, poll_of, seen_within}
 use Rattle.objective_mesh.specs.declared.Poll.{Poll}
@@ -129,5 +128,5 @@ pub record Blank (entered : Point) (r : Progress) : Type 0 where
   pub trials : r.trials ≡ 30
   pub evaluation : r.evaluation ≡ no_evaluation
   pub pass : pass_of r.pass ≡ mesh.first_pass no_information entered zero64
-  pub convergence : r.convergence ≡ NotConverged
+  pub convergence : r.convergence ≡ None
   pub evaluations : r.evaluations ≡ 0

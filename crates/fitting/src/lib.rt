@@ -7,7 +7,6 @@ ghost use Rattle.fitting.specs.Meaning.{after_trial, after_look};
 ghost use Rattle.fitting.specs.declared.Stage.TheVariants as StageOf;
 
 use definition::{Convergence, Evaluation, Point};
-use map_fit::NextTrial;
 use matrix::Symmetric2;
 use objective_mesh::{Pass, Poll, PollStep};
 
@@ -31,13 +30,13 @@ pub struct Progress {
     // the last evaluation, and the poll
     pub evaluation: Evaluation,
     pub pass: Pass,
-    // how the fit was verified, and by how many poll evaluations
-    pub convergence: Convergence,
+    // how the fit was verified, if it was, and by how many poll evaluations
+    pub convergence: Option<Convergence>,
     pub evaluations: usize,
 }
 
 // What the evaluation that is asked for is wanted for.
-#[derive(Clone, Copy)]
+#[derive(Clone, Copy, PartialEq, Eq)]
 pub enum Stage {
     Iteration,
     Final,
@@ -60,6 +59,7 @@ pub struct Moved {
 }
 
 // The fit has ended: the evaluation at it comes next.
+#[tactic(auto, unfolding(definition::specs::Whole::fitted))]
 fn found(g: Progress) -> Moved
     ensures { Moves result (found_at g) }
 {
@@ -74,7 +74,7 @@ fn found_flat(g: Progress) -> Moved
     ensures { Moves result (flat_at g) }
 {
     found(Progress {
-        convergence: Convergence::ScaledGradient,
+        convergence: Some(Convergence::ScaledGradient),
         evaluations: 0,
         ..g
     })
@@ -84,13 +84,11 @@ fn found_flat(g: Progress) -> Moved
 fn iterations_left(g: Progress) -> usize
     ensures { result ≡ left_of g }
 {
-    if g.left > MAX_ITERATIONS {
-        return MAX_ITERATIONS;
-    }
-    g.left
+    g.left.min(MAX_ITERATIONS)
 }
 
 // The next iteration, or, with none left, the final evaluation.
+#[tactic(auto, unfolding(definition::specs::Fit::verify, definition::specs::Fit::iterate), using(crate::proofs::Laws::bind_assoc))]
 fn next_iteration(g: Progress) -> Moved
     ensures { Moves result (iteration_at g) }
 {
@@ -108,22 +106,20 @@ fn next_iteration(g: Progress) -> Moved
 }
 
 // The next candidate of the iteration, or, with no trial left, the final evaluation.
+#[tactic(auto, unfolding(definition::specs::Fit::verify), using(crate::proofs::Laws::bind_assoc, map_fit::proofs::Trials::trials_next))]
 fn next_candidate(g: Progress) -> Moved
     ensures { Moves result (candidate_at g) }
 {
-    let p = g.point;
-    let e = g.evaluation;
-    let next = map_fit::next_trial(p, e, g.trials, g.damping);
-    match next {
-        NextTrial::Candidate(q, trials, damping) => Moved {
+    match map_fit::next_trial(g.point, g.evaluation, g.trials, g.damping) {
+        Some(t) => Moved {
             progress: Progress {
-                trials,
-                damping,
+                trials: t.left,
+                damping: t.damping,
                 ..g
             },
-            wait: Wait::Trial(q),
+            wait: Wait::Trial(t.point),
         },
-        NextTrial::Exhausted => Moved {
+        None => Moved {
             progress: g,
             wait: Wait::Evaluation(Stage::Final),
         },
@@ -134,27 +130,24 @@ fn next_candidate(g: Progress) -> Moved
 fn polled(g: Progress, r: Poll) -> Moved
     ensures { Moves result (polled_at g r) }
 {
-    let point = r.point;
-    let convergence = r.convergence;
     found(Progress {
-        point,
-        convergence,
+        point: r.point,
+        convergence: r.convergence,
         evaluations: r.evaluations,
         ..g
     })
 }
 
 // The next candidate of the poll, or its end.
+#[tactic(auto, unfolding(definition::specs::Mesh::poll), using(crate::proofs::Laws::poll_turn))]
 fn next_look(g: Progress) -> Moved
     ensures { Moves result (poll_at g) }
 {
     let pass = g.pass;
     if pass.evaluations >= objective_mesh::MAP_OBJECTIVE_MAX_POLL_EVALUATIONS {
-        let r = objective_mesh::stopped(pass);
-        return polled(g, r);
+        return polled(g, pass.stopped());
     }
-    let step = objective_mesh::next_step(pass);
-    match step {
+    match pass.next_step() {
         PollStep::Evaluates(c, pass) => Moved {
             progress: Progress { pass, ..g },
             wait: Wait::Look(c),
@@ -182,7 +175,7 @@ pub fn blank(entered: Point) -> Progress
         bc_sensitivity_ratio: 0.0,
         data_condition_number: 0.0,
     };
-    let pass = objective_mesh::first_pass(none, entered, 0.0);
+    let pass = Pass::first(none, entered, 0.0);
     Progress {
         point: entered,
         current: 0.0,
@@ -191,7 +184,7 @@ pub fn blank(entered: Point) -> Progress
         trials: MAX_TRIALS,
         evaluation,
         pass,
-        convergence: Convergence::NotConverged,
+        convergence: None,
         evaluations: 0,
     }
 }
@@ -210,6 +203,7 @@ pub fn start(entered: Point, value: f64) -> Moved
 }
 
 // The evaluation of an iteration is there.
+#[tactic(auto, unfolding(definition::specs::Fit::evaluated))]
 pub fn after_iteration(g: Progress, e: Evaluation) -> Moved
     ensures { AfterRows g result StageOf.Iteration e }
 {
@@ -224,6 +218,7 @@ pub fn after_iteration(g: Progress, e: Evaluation) -> Moved
 }
 
 // The final evaluation is there.
+#[tactic(auto, unfolding(definition::specs::Fit::verified), using(crate::proofs::Laws::bind_assoc))]
 pub fn after_final(g: Progress, e: Evaluation) -> Moved
     ensures { AfterRows g result StageOf.Final e }
 {
@@ -240,9 +235,7 @@ pub fn after_final(g: Progress, e: Evaluation) -> Moved
 pub fn after_mesh(g: Progress, e: Evaluation) -> Moved
     ensures { AfterRows g result StageOf.Mesh e }
 {
-    let p = g.point;
-    let information = e.posterior_information;
-    let pass = objective_mesh::first_pass(information, p, g.current);
+    let pass = Pass::first(e.posterior_information, g.point, g.current);
     next_look(Progress { pass, ..g })
 }
 
@@ -267,7 +260,6 @@ pub fn after_trial(g: Progress, q: Point, value: f64) -> Moved
 pub fn after_look(g: Progress, c: Point, value: f64) -> Moved
     ensures { Moves result (λ m ds. after_look m ds g c value) }
 {
-    let before = g.pass;
-    let pass = objective_mesh::seen(c, value, before);
+    let pass = g.pass.seen(c, value);
     next_look(Progress { pass, ..g })
 }

@@ -7,6 +7,7 @@ use native.Mathlib.Omega.{arith}
 use borrow.Author.Tests.{leb-true, ltb-true, ltb-false, le-leb, lt-leb}
 use lib.Dec.{leb, ltb}
 use lib.ListN.{length, set, length-set, length-map}
+use lib.Seq.{map-set}
 use lib.Ieee.{Float}
 use Rattle.definition.specs.Lists.{next, first_at, insert_at, remove_at}
 use Rattle.definition.specs.Request.{Requested, Opening}
@@ -18,22 +19,22 @@ use Rattle.definition.specs.Whole.{sound_requested_of, faulty_requested, no_rows
 use Rattle.definition.specs.Whole.{unless_missing, edit_questions, edit}
 use Rattle.definition.specs.declared.Point.{Point}
 use Rattle.fresh_outcome.specs.Solver.{Solver, distances_of, host_of, with_list, fresh, EditFresh, TakeOutFresh, ListKept}
-use Rattle.fresh_outcome.proofs.Lists.{insert_hit, insert_miss, set_hit, set_miss, remove_miss, map_insert, map_set, map_remove, insert_length}
+use Rattle.fresh_outcome.proofs.Lists.{insert_hit, insert_miss, set_hit, set_miss, remove_miss, map_insert, map_remove, insert_length}
 use Rattle.fresh_outcome.proofs.Lists.{remove_shorter}
 use Rattle.fresh_outcome.proofs.Rows.{drop_at, mv_slope_at, bc_slope_at, lacks, rows_with, rows_over, five}
 use Rattle.fresh_outcome.proofs.Runs.{play_then, finished_at, closing, gap_at, Came, came, again, again_faulty, again_long}
 
 abbrev range_of : Requested → Float
-range_of d = d.range
+range_of d = d.range_yd
 
 -- ---- maps over the distances of an edited list
 
 module _ (g : Float → Float) where
-  over_insert : (d : Requested) (l : List Requested) (j : ℕ) → map g (distances_of (insert_at j d l)) ≡ insert_at j (g d.range) (map g (distances_of l))
-  over_insert d l j = ap (map g) (map_insert range_of d l j) ∙ map_insert g d.range (distances_of l) j
+  over_insert : (d : Requested) (l : List Requested) (j : ℕ) → map g (distances_of (insert_at j d l)) ≡ insert_at j (g d.range_yd) (map g (distances_of l))
+  over_insert d l j = ap (map g) (map_insert range_of d l j) ∙ map_insert g d.range_yd (distances_of l) j
 
-  over_set : (d : Requested) (l : List Requested) (j : ℕ) → map g (distances_of (set l j d)) ≡ set (map g (distances_of l)) j (g d.range)
-  over_set d l j = ap (map g) (map_set range_of d l j) ∙ map_set g d.range (distances_of l) j
+  over_set : (d : Requested) (l : List Requested) (j : ℕ) → map g (distances_of (set l j d)) ≡ set (map g (distances_of l)) j (g d.range_yd)
+  over_set d l j = ap (map g) (map-set range_of l j d) ∙ map-set g (distances_of l) j d.range_yd
 
   over_remove : (l : List Requested) (j : ℕ) → map g (distances_of (remove_at j l)) ≡ remove_at j (map g (distances_of l))
   over_remove l j = ap (map g) (map_remove range_of l j) ∙ map_remove g (distances_of l) j
@@ -46,9 +47,9 @@ record Asks (σ : Solver) (p : Point) (e : Edit) (place : ℕ) (d : Requested) (
   pub edits : edited e l ≡ k
   pub faulty : sound_requested_of d ≡ false → first_at faulty_requested k ≡ suc j
   pub sound : sound_requested_of d ≡ true → first_at faulty_requested k ≡ 0
-  pub gap : lacks σ p d.range ≡ true → gap_at σ p k ≡ suc j
-  pub whole : lacks σ p d.range ≡ false → gap_at σ p k ≡ 0
-  pub rows : edited_rows e (rows_over σ p (d.range ∷ [])) (rows_with σ p (distances_of l) 0) ≡ rows_with σ p (distances_of k) 0
+  pub gap : lacks σ p d.range_yd ≡ true → gap_at σ p k ≡ suc j
+  pub whole : lacks σ p d.range_yd ≡ false → gap_at σ p k ≡ 0
+  pub rows : edited_rows e (rows_over σ p (d.range_yd ∷ [])) (rows_with σ p (distances_of l) 0) ≡ rows_with σ p (distances_of k) 0
 
 asks : (σ : Solver) (o : Opening) (l : List Requested) (c : Finished) (w : Came σ o l c) (e : Edit) (place : ℕ) (d : Requested) (k : List Requested) (j : ℕ)
     → Asks σ w.fit.point e place d l k j
@@ -57,7 +58,7 @@ unfolding edit_questions
 asks σ o l c w e place d k j a = by_test (sound_requested_of d) refl
   where
     one : Rows
-    one = rows_over σ w.fit.point (d.range ∷ [])
+    one = rows_over σ w.fit.point (d.range_yd ∷ [])
 
     before : Finished
     before = finished_at σ o l w.fit w.rows
@@ -76,7 +77,7 @@ asks σ o l c w e place d k j a = by_test (sound_requested_of d) refl
       baseline = after.baseline;
     }
 
-    by_row : (t : Bool) → lacks σ w.fit.point d.range ≡ t → first_at faulty_requested k ≡ 0
+    by_row : (t : Bool) → lacks σ w.fit.point d.range_yd ≡ t → first_at faulty_requested k ≡ 0
         → play (host_of σ (with_list o l)) (bind (unless_missing (cond t 1 (next zero)) place) (λ u. done (renewed before e one))) ≡ fresh σ o k
     by_row true t z = ap (refuses 13) a.at ∙ sym (again σ o l c w k a.room z ∙ ap (λ (n : ℕ). closing n after) (a.gap t))
     by_row false t z = sym (again σ o l c w k a.room z ∙ ap (λ (n : ℕ). closing n after) (a.whole t) ∙ ap (λ (f : Finished). ends f) same)
@@ -84,10 +85,10 @@ asks σ o l c w e place d k j a = by_test (sound_requested_of d) refl
     by_test : (t : Bool) → sound_requested_of d ≡ t → play (host_of σ (with_list o l)) (bind (require t 7 place) (λ u. edit_questions c e place d)) ≡ fresh σ o k
     by_test true t =
         ap (λ (x : Finished). play (host_of σ (with_list o l)) (edit_questions x e place d)) w.is
-        ∙ play_then (host_of σ (with_list o l)) (truing_jacobian_rows w.fit.point (new d.range))
+        ∙ play_then (host_of σ (with_list o l)) (truing_jacobian_rows w.fit.point (new d.range_yd))
         (λ one. bind (unless_missing one.gap place) (λ u. done (renewed before e one))) one
-        (five σ (host_of σ (with_list o l)) (new d.range) (d.range ∷ []) (λ q. refl) w.fit.point w.served)
-        ∙ by_row (lacks σ w.fit.point d.range) refl (a.sound t)
+        (five σ (host_of σ (with_list o l)) (new d.range_yd) (d.range_yd ∷ []) (λ q. refl) w.fit.point w.served)
+        ∙ by_row (lacks σ w.fit.point d.range_yd) refl (a.sound t)
     by_test false t = ap (refuses 7) a.at ∙ sym (again_faulty σ o l c w k j a.room (a.faulty t))
 
 module _ (σ : Solver) (p : Point) (i : ℕ) (d : Requested) (l : List Requested) (ok : first_at faulty_requested l ≡ 0) (hits : gap_at σ p l ≡ 0) (lo : 1 ≤ i) where
@@ -102,8 +103,8 @@ module _ (σ : Solver) (p : Point) (i : ℕ) (d : Requested) (l : List Requested
         edits = refl;
         faulty = λ b. insert_hit faulty_requested d l j (omega arith) ok (ap not b);
         sound = λ b. insert_miss faulty_requested d l j ok (ap not b);
-        gap = λ b. ap (first_at (lacks σ p)) (map_insert range_of d l j) ∙ insert_hit (lacks σ p) d.range ds j (omega arith) hits b;
-        whole = λ b. ap (first_at (lacks σ p)) (map_insert range_of d l j) ∙ insert_miss (lacks σ p) d.range ds j hits b;
+        gap = λ b. ap (first_at (lacks σ p)) (map_insert range_of d l j) ∙ insert_hit (lacks σ p) d.range_yd ds j (omega arith) hits b;
+        whole = λ b. ap (first_at (lacks σ p)) (map_insert range_of d l j) ∙ insert_miss (lacks σ p) d.range_yd ds j hits b;
         rows = λ t. record {
           predicted = sym (over_insert (drop_at σ p) d l j) t;
           by_mv = sym (over_insert (mv_slope_at σ p) d l j) t;
@@ -123,8 +124,8 @@ module _ (σ : Solver) (p : Point) (i : ℕ) (d : Requested) (l : List Requested
         edits = refl;
         faulty = λ b. set_hit faulty_requested d l j (omega arith) ok (ap not b);
         sound = λ b. set_miss faulty_requested d l j ok (ap not b);
-        gap = λ b. ap (first_at (lacks σ p)) (map_set range_of d l j) ∙ set_hit (lacks σ p) d.range ds j (omega arith) hits b;
-        whole = λ b. ap (first_at (lacks σ p)) (map_set range_of d l j) ∙ set_miss (lacks σ p) d.range ds j hits b;
+        gap = λ b. ap (first_at (lacks σ p)) (map-set range_of l j d) ∙ set_hit (lacks σ p) d.range_yd ds j (omega arith) hits b;
+        whole = λ b. ap (first_at (lacks σ p)) (map-set range_of l j d) ∙ set_miss (lacks σ p) d.range_yd ds j hits b;
         rows = λ t. record {
           predicted = sym (over_set (drop_at σ p) d l j) t;
           by_mv = sym (over_set (mv_slope_at σ p) d l j) t;
@@ -135,7 +136,7 @@ module _ (σ : Solver) (p : Point) (i : ℕ) (d : Requested) (l : List Requested
 
 and_true : (a b : Bool) → (a && b) ≡ true → (a ≡ true) × (b ≡ true)
 and_true true b e = (refl, e)
-and_true false b e = absurd (let y : ◌≡◌ {A = ℕ} 0 1 = cc in omega arith)
+and_true false b e = absurd (grind arith)
 
 -- ---- the theorems
 

@@ -3,7 +3,7 @@ use Prim.Native.Nat.{ℕ, zero, suc, ◌≤◌, ◌<◌, min}
 use mathlib.Core.Path.{◌≡◌, refl, ap, ◌∙◌}
 use mathlib.Core.Bool.{Bool, true, false, cond, ◌||◌}
 use mathlib.Core.List.{List, [], ◌∷◌, map}
-use native.Mathlib.Nat.{not-suc-le-zero, le_of_suc-le-suc}
+use native.Mathlib.Nat.{not-suc-le-zero}
 use native.Mathlib.Omega.{arith}
 use lib.ListN.{length, set}
 use Rattle.definition.specs.Lists.{next, first_of, first_at, insert_at, remove_at, zip_with, zip_with3}
@@ -29,37 +29,27 @@ module _ {A : Type 0} (t : A → Bool) where
   pub insert_hit : (a : A) (l : List A) (j : ℕ) → j ≤ length l → first_at t l ≡ 0 → t a ≡ true → first_at t (insert_at j a l) ≡ suc j
   insert_hit a l zero h z e = rw e
   insert_hit a [] (suc j) h z e = absurd (not-suc-le-zero h)
-  insert_hit a (x ∷ l) (suc j) h z e =
-      let b = cond_zero (t x) (first_at t l) z in
-      rw (b.0, insert_hit a l j (le_of_suc-le-suc h) b.1 e)
+  insert_hit a (x ∷ l) (suc j) h z e = grind (arith, cond_zero, insert_hit a l j)
 
   pub insert_miss : (a : A) (l : List A) (j : ℕ) → first_at t l ≡ 0 → t a ≡ false → first_at t (insert_at j a l) ≡ 0
   insert_miss a l zero z e = rw (e, z)
   insert_miss a [] (suc j) z e = rw e
-  insert_miss a (x ∷ l) (suc j) z e =
-      let b = cond_zero (t x) (first_at t l) z in
-      rw (b.0, insert_miss a l j b.1 e)
+  insert_miss a (x ∷ l) (suc j) z e = grind (arith, cond_zero, insert_miss a l j)
 
   pub set_hit : (a : A) (l : List A) (j : ℕ) → j < length l → first_at t l ≡ 0 → t a ≡ true → first_at t (set l j a) ≡ suc j
   set_hit a [] j h z e = absurd (not-suc-le-zero h)
   set_hit a (x ∷ l) zero h z e = rw e
-  set_hit a (x ∷ l) (suc j) h z e =
-      let b = cond_zero (t x) (first_at t l) z in
-      rw (b.0, set_hit a l j (le_of_suc-le-suc h) b.1 e)
+  set_hit a (x ∷ l) (suc j) h z e = grind (arith, cond_zero, set_hit a l j)
 
   pub set_miss : (a : A) (l : List A) (j : ℕ) → first_at t l ≡ 0 → t a ≡ false → first_at t (set l j a) ≡ 0
   set_miss a [] j z e = refl
-  set_miss a (x ∷ l) zero z e = rw (e, (cond_zero (t x) (first_at t l) z).1)
-  set_miss a (x ∷ l) (suc j) z e =
-      let b = cond_zero (t x) (first_at t l) z in
-      rw (b.0, set_miss a l j b.1 e)
+  set_miss a (x ∷ l) zero z e = grind (arith, cond_zero)
+  set_miss a (x ∷ l) (suc j) z e = grind (arith, cond_zero, set_miss a l j)
 
   pub remove_miss : (l : List A) (j : ℕ) → first_at t l ≡ 0 → first_at t (remove_at j l) ≡ 0
   remove_miss [] j z = refl
-  remove_miss (x ∷ l) zero z = (cond_zero (t x) (first_at t l) z).1
-  remove_miss (x ∷ l) (suc j) z =
-      let b = cond_zero (t x) (first_at t l) z in
-      rw (b.0, remove_miss l j b.1)
+  remove_miss (x ∷ l) zero z = grind (arith, cond_zero)
+  remove_miss (x ∷ l) (suc j) z = grind (arith, cond_zero, remove_miss l j)
 
   -- the first of two tests is the first of either
   pub first_either : (u : A → Bool) (l : List A) → first_of (first_at t l) (first_at u l) ≡ first_at (λ a. t a || u a) l
@@ -84,11 +74,6 @@ module _ {A B : Type 0} (f : A → B) where
   map_insert a [] (suc j) = refl
   map_insert a (x ∷ l) (suc j) = ap (λ (r : List B). f x ∷ r) (map_insert a l j)
 
-  pub map_set : (a : A) (l : List A) (j : ℕ) → map f (set l j a) ≡ set (map f l) j (f a)
-  map_set a [] j = refl
-  map_set a (x ∷ l) zero = refl
-  map_set a (x ∷ l) (suc j) = ap (λ (r : List B). f x ∷ r) (map_set a l j)
-
   pub map_remove : (l : List A) (j : ℕ) → map f (remove_at j l) ≡ remove_at j (map f l)
   map_remove [] j = refl
   map_remove (x ∷ l) zero = refl
@@ -98,10 +83,6 @@ module _ {A B : Type 0} (f : A → B) where
   pub first_map : (t : B → Bool) (l : List A) → first_at t (map f l) ≡ first_at (λ a. t (f a)) l
   first_map t [] = refl
   first_map t (a ∷ l) = ap (λ (n : ℕ). cond (t (f a)) 1 (next n)) (first_map t l)
-
-pub map_map : {A B C : Type 0} (g : B → C) (f : A → B) (l : List A) → map g (map f l) ≡ map (λ a. g (f a)) l
-map_map g f [] = refl
-map_map g f (a ∷ l) = ap (λ r. g (f a) ∷ r) (map_map g f l)
 
 pub zip_maps : {A B C D : Type 0} (h : B → C → D) (f : A → B) (g : A → C) (l : List A) → zip_with h (map f l) (map g l) ≡ map (λ a. h (f a) (g a)) l
 zip_maps h f g [] = refl

@@ -2,8 +2,9 @@
 use Prim.Native.Nat.{◌-◌}
 use mathlib.Core.Path.{◌≡◌, refl, sym, ap, ◌∙◌, subst₂}
 use mathlib.Core.Bool.{Bool, true, false, cond, not, ◌||◌}
-use mathlib.Core.List.{List, [], ◌∷◌, map}
+use mathlib.Core.List.{List, [], ◌∷◌, map, map-map}
 use lib.ListN.{set}
+use lib.Seq.{map-set}
 use lib.Ieee.{Float, lt}
 use Rattle.numeric.specs.Numeric.{finite}
 use Rattle.definition.specs.Constants.{least_sensitivity_ratio, largest_condition}
@@ -20,7 +21,7 @@ use Rattle.definition.specs.declared.Evaluation.{Evaluation}
 use Rattle.definition.specs.declared.TruingUncertaintyWarningCodeV1.TheVariants as Warning
 use Rattle.definition.specs.declared.TruingUncertaintyWarningCodeV1.{TruingUncertaintyWarningCodeV1}
 use Rattle.fresh_outcome.specs.Solver.{Solver, distances_of, is_domain, without, BandEdited, BandAlone, OnlyBand}
-use Rattle.fresh_outcome.proofs.Lists.{map_map, zip_map, zip3_maps, map_insert, map_set, map_remove}
+use Rattle.fresh_outcome.proofs.Lists.{zip_map, zip3_maps, map_insert, map_remove}
 use Rattle.fresh_outcome.proofs.Rows.{drop_at, mv_slope_at, bc_slope_at, rows_with}
 use Rattle.fresh_outcome.proofs.Runs.{finished_at, came, again_ends}
 
@@ -31,15 +32,15 @@ module _ (σ : Solver) (a : Approximation) (p : Point) where
   row_at d = row_of (drop_at σ p d) (mv_slope_at σ p d) (bc_slope_at σ p d)
 
   abbrev band_at : Requested → Band
-  band_at d = band_of a d (row_at d.range)
+  band_at d = band_of a d (row_at d.range_yd)
 
   abbrev bands_of : List Requested → List Band
   bands_of l = zip_with (band_of a) l (rows_of (rows_with σ p (distances_of l) 0))
 
   bands_over : (l : List Requested) → bands_of l ≡ map band_at l
   bands_over l =
-      ap (zip_with (band_of a) l) (zip3_maps row_of (drop_at σ p) (mv_slope_at σ p) (bc_slope_at σ p) (distances_of l) ∙ map_map row_at (λ d. d.range) l)
-      ∙ zip_map (band_of a) (λ d. row_at d.range) l
+      ap (zip_with (band_of a) l) (zip3_maps row_of (drop_at σ p) (mv_slope_at σ p) (bc_slope_at σ p) (distances_of l) ∙ map-map row_at (λ d. d.range_yd) l)
+      ∙ zip_map (band_of a) (λ d. row_at d.range_yd) l
 
   bands_edited : (l : List Requested) (e : Edit) → BandEdited e (bands_of l) (bands_of (edited e l))
   unfolding band_of
@@ -47,7 +48,7 @@ module _ (σ : Solver) (a : Approximation) (p : Point) where
       (band_at d, refl, bands_over (insert_at (i - 1) d l) ∙ map_insert band_at d l (i - 1) ∙ ap (insert_at (i - 1) (band_at d)) (sym (bands_over l)))
   bands_edited l (take_out i) = bands_over (remove_at (i - 1) l) ∙ map_remove band_at l (i - 1) ∙ ap (remove_at (i - 1)) (sym (bands_over l))
   bands_edited l (exchange i d) =
-      (band_at d, refl, bands_over (set l (i - 1) d) ∙ map_set band_at d l (i - 1) ∙ ap (λ (bs : List Band). set bs (i - 1) (band_at d)) (sym (bands_over l)))
+      (band_at d, refl, bands_over (set l (i - 1) d) ∙ map-set band_at l (i - 1) d ∙ ap (λ (bs : List Band). set bs (i - 1) (band_at d)) (sym (bands_over l)))
 
 -- ---- the warnings
 

@@ -3,7 +3,7 @@
 use Prim.Native.Nat.{ℕ}
 use mathlib.Core.Path.{◌≡◌, refl, sym, ap, ap₂, ◌∙◌}
 use mathlib.Core.Bool.{Bool, true, false, cond, ◌||◌}
-use mathlib.Core.List.{List, map}
+use mathlib.Core.List.{List, map, map-map}
 use native.Mathlib.Omega.{arith}
 use lib.Ieee.{Float}
 use Rattle.definition.specs.Lists.{first_of, first_at}
@@ -13,12 +13,12 @@ use Rattle.definition.specs.Likelihood.{Rows, mv_step_of, bc_step_of, slope, slo
 use Rattle.definition.specs.Likelihood.{truing_jacobian_rows}
 use Rattle.definition.specs.declared.Point.{Point}
 use Rattle.fresh_outcome.specs.Solver.{Solver, reply_at}
-use Rattle.fresh_outcome.proofs.Lists.{map_map, zip_maps, first_map, first_either}
+use Rattle.fresh_outcome.proofs.Lists.{zip_maps, first_map, first_either}
 
 -- ---- outcomes
 
 pub not_ends : {A B : Type 0} (a : A) (n i : ℕ) → ◌≡◌ {A = Outcome A} (refuses n i) (ends a) → B
-not_ends a n i e = absurd (let z : ◌≡◌ {A = ℕ} 0 1 = cc in omega arith)
+not_ends a n i e = absurd (grind arith)
 
 -- what comes of an outcome
 abbrev pub and_then : {A B : Type 0} → Outcome A → (A → Outcome B) → Outcome B
@@ -96,7 +96,7 @@ module _ (σ : Solver) where
   slopes_over : (step : Float) (p q : Point) (ds : List Float)
       → slopes step (reading_at p ds).drops (reading_at q ds).drops ≡ map (λ d. slope step (drop_at p d) (drop_at q d)) ds
   slopes_over step p q ds =
-      ap₂ (λ (a b : List Float). slopes step a b) (map_map drop_or0 (σ.drops p) ds) (map_map drop_or0 (σ.drops q) ds)
+      ap₂ (λ (a b : List Float). slopes step a b) (map-map drop_or0 (σ.drops p) ds) (map-map drop_or0 (σ.drops q) ds)
       ∙ zip_maps (slope step) (drop_at p) (drop_at q) ds
 
   gap_over :
@@ -105,7 +105,7 @@ module _ (σ : Solver) where
 
   rows_over_lem : (p : Point) (ds : List Float) → rows_read p ds ≡ rows_over p ds
   rows_over_lem p ds = λ i. record {
-    predicted = map_map drop_or0 (σ.drops p) ds i;
+    predicted = map-map drop_or0 (σ.drops p) ds i;
     by_mv = slopes_over (mv_step_of p.mv) (mv_plus_at p) (mv_minus_at p) ds i;
     by_bc = slopes_over (bc_step_of p.bc) (bc_plus_at p) (bc_minus_at p) ds i;
     gap =

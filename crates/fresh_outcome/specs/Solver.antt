@@ -24,7 +24,7 @@ abbrev pub reply_at : Solver → Point → List Float → Reply
 reply_at σ p ds = cond (σ.refuses p) refused (entries (map (σ.drops p) ds))
 
 abbrev pub distances_of : List Requested → List Float
-distances_of l = map (λ d. d.range) l
+distances_of l = map (λ d. d.range_yd) l
 
 -- the host that puts to the solver each question's distances
 abbrev pub host_of : Solver → Opening → Host
@@ -82,9 +82,9 @@ without (code ∷ codes) = cond (is_domain code) (without codes) (code ∷ witho
 
 -- the bands before and after: one, of the new distance, is put in at the place, or stands there for the old one; or the one there is taken out
 abbrev pub BandEdited : Edit → List Band → List Band → Type 0
-BandEdited (put_in i d) before after = (band : Band) × (band.range ≡ d.range) × (after ≡ insert_at (i - 1) band before)
+BandEdited (put_in i d) before after = (band : Band) × (band.range ≡ d.range_yd) × (after ≡ insert_at (i - 1) band before)
 BandEdited (take_out i) before after = after ≡ remove_at (i - 1) before
-BandEdited (exchange i d) before after = (band : Band) × (band.range ≡ d.range) × (after ≡ set before (i - 1) band)
+BandEdited (exchange i d) before after = (band : Band) × (band.range ≡ d.range_yd) × (after ≡ set before (i - 1) band)
 
 -- everything else is the same
 pub record BandAlone (e : Edit) (before after : Report) : Type 0 where

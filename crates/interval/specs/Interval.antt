@@ -1,13 +1,10 @@
 -- S13: `GaussianIntervalV1::from_variance`.
-use Rattle.std.specs.Prelude.{cond, not, Float}
-use Rattle.std.proofs.Math.Option.{Option, none, some}
+use Rattle.std.specs.Prelude.{cond, not, Float, Option, None, Some}
 use Rattle.std.specs.Float.{binary64}
 use Rattle.std.specs.Float.Ieee.{add, sub, mul, lt, of_bits}
 use Rattle.root.specs.Root.{root_of}
 use Rattle.numeric.specs.Numeric.{zero64, finite}
 use Rattle.interval.specs.declared.GaussianIntervalV1.{GaussianIntervalV1}
-use Rattle.interval.specs.declared.Interval.{Interval}
-use Rattle.interval.specs.declared.Interval.TheVariants.{Present, Absent}
 
 -- the level 0.95 and its factor 1.959963984540054
 abbrev pub level95 : Float
@@ -25,20 +22,15 @@ unfoldable pub classification_of : Float → Float → Classification
 classification_of estimate variance =
     cond (not (finite estimate)) estimate_not_finite (cond (not (finite variance)) variance_not_finite (cond (lt variance zero64) variance_negative sound))
 
--- what each case of the answer says: an interval by its five values, or none
-abbrev pub says : Interval → Option GaussianIntervalV1
-says (Present g) = some g
-says Absent = none
-
 -- an interval exactly where the classification is sound: the standard deviation is the root of the variance, and the half width the factor times that
 unfoldable pub interval_where : Classification → Float → Float → Float → Float → Option GaussianIntervalV1
 interval_where sound level factor estimate variance =
     let deviation = root_of variance in
     let half = mul binary64 factor deviation in
-    some (record { estimate = estimate; standard_deviation = deviation; lower = sub binary64 estimate half; upper = add binary64 estimate half; probability = level })
-interval_where estimate_not_finite level factor estimate variance = none
-interval_where variance_not_finite level factor estimate variance = none
-interval_where variance_negative level factor estimate variance = none
+    Some (record { estimate = estimate; standard_deviation = deviation; lower = sub binary64 estimate half; upper = add binary64 estimate half; probability = level })
+interval_where estimate_not_finite level factor estimate variance = None
+interval_where variance_not_finite level factor estimate variance = None
+interval_where variance_negative level factor estimate variance = None
 
 -- the interval of an estimate and a variance, at a level and its factor
 unfoldable pub interval_of : Float → Float → Float → Float → Option GaussianIntervalV1

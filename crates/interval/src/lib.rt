@@ -2,9 +2,9 @@
 #![tactic(auto)]
 
 ghost use Rattle.std.specs.Prelude.{◌≡◌};
-ghost use Rattle.interval.specs.Interval.{says, level95, factor95, interval_of};
+ghost use Rattle.interval.specs.Interval.{level95, factor95, interval_of};
 
-#[derive(Clone, Copy)]
+#[derive(Clone, Copy, PartialEq)]
 pub struct GaussianIntervalV1 {
     pub estimate: f64,
     pub standard_deviation: f64,
@@ -13,33 +13,28 @@ pub struct GaussianIntervalV1 {
     pub probability: f64,
 }
 
-#[derive(Clone, Copy)]
-pub enum Interval {
-    Present(GaussianIntervalV1),
-    Absent,
-}
-
 impl GaussianIntervalV1 {
     // The probability that the interval holds, and how many standard deviations it reaches to either side.
     pub const LEVEL: f64 = 0.95;
 
     pub const FACTOR: f64 = 1.959963984540054;
 
-    pub fn from_variance(estimate: f64, variance: f64) -> Interval
-        ensures { says result ≡ interval_of level95 factor95 estimate variance }
+    #[tactic(auto, unfolding(crate::specs::Interval::interval_of, crate::specs::Interval::interval_where, crate::specs::Interval::classification_of))]
+    pub fn from_variance(estimate: f64, variance: f64) -> Option<Self>
+        ensures { result ≡ interval_of level95 factor95 estimate variance }
     {
         if !numeric::is_finite(estimate) {
-            return Interval::Absent;
+            return None;
         }
         if !numeric::is_finite(variance) {
-            return Interval::Absent;
+            return None;
         }
         if variance < 0.0 {
-            return Interval::Absent;
+            return None;
         }
         let standard_deviation = root::root(variance);
         let half_width = GaussianIntervalV1::FACTOR * standard_deviation;
-        Interval::Present(GaussianIntervalV1 {
+        Some(GaussianIntervalV1 {
             estimate,
             standard_deviation,
             lower: estimate - half_width,

@@ -1,10 +1,18 @@
 -- Laws of the lists that slices and arrays stand for: folds and zips up to an index, a list laid over another, the first that passes a test, a reply's entries.
-use Prim.Native.Nat.{ℕ, zero, suc, ◌≤◌, ◌<◌, min}
+use Rattle.std.specs.Prelude.{Option, None, Some}
+use Rattle.std.specs.List.{position, prefix_len}
+use Rattle.std.specs.Prelude.{ltb, not, unwrap_or, slice_get}
+use Rattle.std.proofs.lemmas.Option.{slice_get_past}
+use Rattle.definition.specs.Run.{drop_or0}
+use Rattle.std.proofs.lemmas.Bool.Decides.{nat_tests}
+use Prim.Native.Nat.{ℕ, zero, suc, ◌+◌, ◌≤◌, ◌<◌, min}
 use mathlib.Core.Path.{◌≡◌, refl, sym, ap, ◌∙◌}
 use mathlib.Core.Bool.{Bool, true, false, cond}
 use mathlib.Core.List.{List, [], ◌∷◌, ◌++◌, map}
 use native.Mathlib.Nat.{not-suc-le-zero, le_of_suc-le-suc}
 use native.Mathlib.Omega.{arith}
+use native.Mathlib.Numerals.{add-one}
+use Rattle.std.proofs.Common.{add_comm}
 use lib.ListN.{length, take, get_or, set, length-map, length-take, get_or-map}
 use lib.Seq.{take-nil}
 use lib.Ieee.{Float, nan}
@@ -14,9 +22,7 @@ use Rattle.definition.specs.Request.{Observation}
 use Rattle.definition.specs.Likelihood.{with_shot, chi_square_of, row_of, no_sums, with_row, sums_of}
 use Rattle.definition.specs.declared.Point.{Point}
 use Rattle.definition.specs.declared.Row.{Row}
-use Rattle.definition.specs.Run.{missing, drop, is_missing, drop_or0}
 use Rattle.definition.specs.Meaning.{observation_of, observations_of}
-use Rattle.definition.specs.Session.{entry_of, entries_of}
 use Rattle.slices.specs.Slices.{shortest_of, laid_over}
 
 -- ---- two lists read together
@@ -95,7 +101,6 @@ module _ {A B C D : Type 0} (f : A → B → C → D) where
   zip3_length (x ∷ xs) (y ∷ ys) (z ∷ zs) = omega (arith, zip3_length xs ys zs)
 
   pub zip3_shortest : (xs : List A) (ys : List B) (zs : List C) → length (zip_with3 f xs ys zs) ≡ shortest_of (length xs) (length ys) (length zs)
-  unfolding shortest_of
   zip3_shortest xs ys zs = zip3_length xs ys zs
 
   pub zip3_within : (xs : List A) (ys : List B) (zs : List C)
@@ -135,6 +140,19 @@ module _ {A B C D : Type 0} (f : A → B → C → D) where
   zip3_take_first (x ∷ xs) [] zs (suc i) = refl
   zip3_take_first (x ∷ xs) (y ∷ ys) [] (suc i) = refl
   zip3_take_first (x ∷ xs) (y ∷ ys) (z ∷ zs) (suc i) = ap (λ (r : List D). f x y z ∷ r) (zip3_take_first xs ys zs i)
+
+  -- the one at a place, by those at the place of each
+  pub zip3_get : (xs : List A) (ys : List B) (zs : List C) (i : ℕ) (a : A) (b : B) (c : C)
+      → slice_get xs i ≡ Some a → slice_get ys i ≡ Some b → slice_get zs i ≡ Some c → slice_get (zip_with3 f xs ys zs) i ≡ Some (f a b c)
+  zip3_get [] ys zs i a b c g h k = cc
+  zip3_get (x ∷ xs) [] zs i a b c g h k = cc
+  zip3_get (x ∷ xs) (y ∷ ys) [] i a b c g h k = cc
+  zip3_get (x ∷ xs) (y ∷ ys) (z ∷ zs) zero a b c g h k = cc
+  zip3_get (x ∷ xs) (y ∷ ys) (z ∷ zs) (suc i) a b c g h k = zip3_get xs ys zs i a b c g h k
+
+  pub zip3_past : (xs : List A) (ys : List B) (zs : List C) (i : ℕ) → min (length xs) (min (length ys) (length zs)) ≤ i
+      → slice_get (zip_with3 f xs ys zs) i ≡ None
+  zip3_past xs ys zs i h = let e = zip3_length xs ys zs in slice_get_past (zip_with3 f xs ys zs) i (omega arith)
 
 -- ---- a list laid over another
 
@@ -218,43 +236,20 @@ module _ {A : Type 0} (t : A → Bool) where
       let b = cond_none (t x) (first_at t (take i l)) z in
       rw (b.0, first_here l i d (le_of_suc-le-suc h) b.1 e)
 
--- ---- a reply in two lists
+-- ---- a reply's drops
 
-pub entry_missing : (x : Float) (m : Bool) → is_missing (entry_of x m) ≡ m
-entry_missing x true = refl
-entry_missing x false = refl
+-- one place more of a list that is laid over another, by what stands there
+pub laid_suc : (xs ys : List Float) (i : ℕ) (x : Float) → i < length xs → i < length ys → x ≡ get_or xs i zero64
+    → set (laid_over (take i xs) ys) i x ≡ laid_over (take (i + 1) xs) ys
+laid_suc xs ys i x g h e = rw (e, add-one) (over_suc xs ys i zero64 g h)
 
-pub entries_length : (ds : List Float) (ms : List Bool) → length (entries_of ds ms) ≡ min (length ds) (length ms)
-entries_length ds ms = zip_length entry_of ds ms
+-- an entry's drop, or 0
+pub drop_or_zero : (e : Option Float) → unwrap_or e zero64 ≡ drop_or0 e
+drop_or_zero None = refl
+drop_or_zero (Some x) = refl
 
--- up to an index none is missing: by the flag there, the first is this one, or none is up to the next
-module _ (ds : List Float) (ms : List Bool) (i : ℕ) (g : i < length ds) (h : i < length ms) (z : first_at is_missing (take i (entries_of ds ms)) ≡ 0) where
-  inside : i < length (entries_of ds ms)
-  inside = let e = entries_length ds ms in omega arith
-
-  flag : is_missing (get_or (entries_of ds ms) i missing) ≡ get_or ms i false
-  flag = ap is_missing (zip_at entry_of ds ms i missing nan false g h) ∙ entry_missing (get_or ds i nan) (get_or ms i false)
-
-  pub set_here : get_or ms i false ≡ true → suc i ≡ first_at is_missing (entries_of ds ms)
-  set_here e = sym (first_here is_missing (entries_of ds ms) i missing inside z (flag ∙ e))
-
-  pub unset_here : get_or ms i false ≡ false → first_at is_missing (take (suc i) (entries_of ds ms)) ≡ 0
-  unset_here e = first_suc is_missing (entries_of ds ms) i missing inside z (flag ∙ e)
-
--- where none is missing, the drops are the reply's
-pub entries_drops : (ds : List Float) (ms : List Bool) → length ds ≡ length ms → first_at is_missing (entries_of ds ms) ≡ 0 → map drop_or0 (entries_of ds ms) ≡ ds
-entries_drops [] ms e z = refl
-entries_drops (d ∷ ds) [] e z = absurd (omega arith)
-entries_drops (d ∷ ds) (true ∷ ms) e z = absurd (omega arith)
-entries_drops (d ∷ ds) (false ∷ ms) e z =
-    ap (λ (r : List Float). d ∷ r) (entries_drops ds ms (omega arith) (cond_none false (first_at is_missing (entries_of ds ms)) z).1)
-
-pub drops_length : (ds : List Float) (ms : List Bool) → length (map drop_or0 (entries_of ds ms)) ≡ min (length ds) (length ms)
-drops_length ds ms = length-map (entries_of ds ms) drop_or0 ∙ entries_length ds ms
-
-pub drops_at : (ds : List Float) (ms : List Bool) (i : ℕ) → i < length ds → i < length ms
-    → get_or (map drop_or0 (entries_of ds ms)) i nan ≡ drop_or0 (entry_of (get_or ds i nan) (get_or ms i false))
-drops_at ds ms i g h = get_or-map drop_or0 (entries_of ds ms) i (drop nan) ∙ ap drop_or0 (zip_at entry_of ds ms i (drop nan) nan false g h)
+pub drop_at : (es : List (Option Float)) (i : ℕ) → unwrap_or (get_or es i None) zero64 ≡ get_or (map drop_or0 es) i zero64
+drop_at es i = drop_or_zero (get_or es i None) ∙ sym (get_or-map drop_or0 es i None)
 
 -- ---- the sums over arrays of which the first n places are in use
 
@@ -285,3 +280,33 @@ sums_places p ranges drops sigmas predicted by_mv by_bc n =
     ∙ sym (sums_take p (take n obs) rows n (omega arith))
     ∙ ap (λ (o : List Observation). sums_of p o (take n rows)) (sym (zip3_take observation_of ranges drops sigmas n))
     ∙ ap (λ (r : List Row). sums_of p (observations_of (take n ranges) (take n drops) (take n sigmas)) r) (sym (zip3_take row_of predicted by_mv by_bc n))
+
+-- ---- the first that passes a test, by the library's index of it
+
+-- one more than an index, where there is one
+abbrev pub counted : Option ℕ → ℕ
+counted None = 0
+counted (Some i) = suc i
+
+-- an index below a length, counted from 1, and 0 at the length
+abbrev below : ℕ → ℕ → ℕ
+below n m = counted (cond (ltb n m) (Some n) None)
+
+below_suc : (n m : ℕ) → below (suc n) (suc m) ≡ next (below n m)
+below_suc n m = grind (arith, nat_tests)
+
+module _ {A : Type 0} (t : A → Bool) where
+  by_test : (b : Bool) (n m : ℕ) → below (cond (not b) (1 + n) 0) (suc m) ≡ cond b 1 (next (below n m))
+  by_test true n m = grind (arith, nat_tests)
+  by_test false n m = rw (add_comm 1 n, add-one) (below_suc n m)
+
+  pub first_at_position : (l : List A) → first_at t l ≡ counted (position t l)
+  first_at_position [] = refl
+  first_at_position (x ∷ l) =
+      ap (λ (k : ℕ). cond (t x) 1 (next k)) (first_at_position l) ∙ sym (by_test (t x) (prefix_len (λ y. not (t y)) l) (length l))
+
+  inside : (n m i : ℕ) → cond (ltb n m) (Some n) None ≡ Some i → i < m
+  inside n m i e = grind (arith, nat_tests, e)
+
+  pub position_within : (l : List A) (i : ℕ) → position t l ≡ Some i → i < length l
+  position_within l i e = inside (prefix_len (λ y. not (t y)) l) (length l) i e

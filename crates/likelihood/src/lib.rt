@@ -1,17 +1,21 @@
-// The objective, the rows of the five questions and the evaluation, over lent slices: each loop goes up to the end of the shortest.
+// The objective, the rows of the five questions and the evaluation, over lent columns: each loop goes up to the end of the shortest.
 #![tactic(auto)]
 
-ghost use Rattle.std.specs.Prelude.{◌≡◌, false, map, min, take};
-ghost use Rattle.definition.specs.Lists.{first_of, first_at, zip_with3};
+ghost use Rattle.std.specs.Prelude.{◌≡◌, ◌≤◌, length, map, slice_get};
+ghost use Rattle.std.specs.List.{position};
+ghost use Rattle.numeric.specs.Numeric.{max_of};
+ghost use Rattle.definition.specs.Constants.{◌⊗◌, step_fraction};
+ghost use Rattle.definition.specs.Lists.{first_of, first_at};
 ghost use Rattle.definition.specs.Run.{is_missing, drop_or0};
-ghost use Rattle.definition.specs.Likelihood.{chi_square_of, with_prior_of, with_priors_of, mv_step_of, bc_step_of, mv_plus_at, mv_minus_at, bc_plus_at, bc_minus_at, slope};
-ghost use Rattle.definition.specs.Likelihood.{slopes, row_of, accumulate_of, sums_of, prior_information_of, with_prior_gradient_of, sensitivity_ratio_of, from_sums};
-ghost use Rattle.definition.specs.Meaning.{observations_of};
-ghost use Rattle.definition.specs.Session.{entry_of, entries_of};
-ghost use Rattle.slices.specs.Slices.{shortest_of, laid_over};
+ghost use Rattle.definition.specs.Likelihood.{chi_square_of, with_prior_of, with_priors_of, mv_step_of, bc_step_of, slope, slopes, accumulate_of, sums_of};
+ghost use Rattle.definition.specs.Likelihood.{prior_information_of, with_prior_gradient_of, sensitivity_ratio_of, from_sums};
+ghost use Rattle.slices.specs.Slices.{laid_over};
+ghost use Rattle.likelihood.specs.Columns.{observations_in, rows_in};
 
 use coordinates::{BC_COORDINATE_SCALE, MV_COORDINATE_SCALE_FPS};
-use definition::{Evaluation, Point, Prior, Row, Sums, TruingPriorsV1};
+use definition::{
+    Evaluation, NormalPriorV1, Point, Row, Sums, TruingPriorsV1, WeightedTruingObservationV1,
+};
 use matrix::Symmetric2;
 
 // The steps of the five questions: this part of the coordinate, and no less than these.
@@ -21,38 +25,40 @@ const LEAST_MV_STEP: f64 = 0.5;
 
 const LEAST_BC_STEP: f64 = 1.0e-4;
 
+// Observations in columns.
+#[derive(Clone, Copy)]
+pub struct Columns<'a> {
+    pub ranges: &'a [f64],
+    pub drops: &'a [f64],
+    pub sigmas: &'a [f64],
+}
+
+// Rows in columns: the predicted drops, and the slopes by speed and by coefficient.
+#[derive(Clone, Copy)]
+pub struct RowColumns<'a> {
+    pub predicted: &'a [f64],
+    pub by_mv: &'a [f64],
+    pub by_bc: &'a [f64],
+}
+
 // ---- gaps
 
-// Whether an entry is missing. The loop does not end early, so that it is done for many flags at a time.
-fn any_gap(drops: &[f64], missing: &[bool]) -> bool
-    ensures { result ≡ false → first_at is_missing (entries_of drops.now missing.now) ≡ 0 }
+// The index of the first entry that is missing.
+fn first_missing(entries: &[Option<f64>]) -> Option<usize>
+    ensures { result ≡ position is_missing entries.now }
 {
-    let n = slices::shorter(drops.len(), missing.len());
-    let mut found = false;
-    let mut i = 0usize;
-    while i < n {
-        found = found | missing[i];
-        i += 1usize;
-    }
-    found
+    entries.iter().position(|entry| entry.is_none())
 }
 
 // The position of the first entry that is missing, 0 where none is.
-pub fn first_gap(drops: &[f64], missing: &[bool]) -> usize
-    ensures { result ≡ first_at is_missing (entries_of drops.now missing.now) }
+#[tactic(auto, using(crate::proofs::Laws::first_at_position, crate::proofs::Laws::position_within))]
+pub fn first_gap(entries: &[Option<f64>]) -> usize
+    ensures { result ≡ first_at is_missing entries.now }
 {
-    if !any_gap(drops, missing) {
-        return 0;
+    match first_missing(entries) {
+        Some(i) => i + 1,
+        None => 0,
     }
-    let n = slices::shorter(drops.len(), missing.len());
-    let mut i = 0usize;
-    while i < n {
-        if missing[i] {
-            return i + 1usize;
-        }
-        i += 1usize;
-    }
-    0
 }
 
 // The first of two positions, where 0 is none.
@@ -65,42 +71,19 @@ pub fn first_of(i: usize, j: usize) -> usize
     if j == 0 {
         return i;
     }
-    if i < j {
-        return i;
-    }
-    j
+    i.min(j)
 }
 
 // ---- the objective
 
-// The squared standardized residuals, summed from the first.
-pub fn chi_square<'a>(
-    ranges: &'a [f64],
-    drops: &'a [f64],
-    sigmas: &'a [f64],
-    predicted: &'a [f64],
-) -> f64
-    ensures { result ≡ chi_square_of (observations_of ranges.now drops.now sigmas.now) predicted.now }
-{
-    let shots = slices::shortest(ranges.len(), drops.len(), sigmas.len());
-    let n = slices::shorter(shots, predicted.len());
-    let mut sum = 0.0;
-    let mut i = 0usize;
-    while i < n {
-        let standardized = (predicted[i] - drops[i]) / sigmas[i];
-        sum = sum + standardized * standardized;
-        i += 1usize;
-    }
-    sum
-}
-
 // A sum with the prior's squared standardized distance added, where there is a prior.
-fn with_prior(prior: Prior, x: f64, sum: f64) -> f64
+#[tactic(auto, unfolding(definition::specs::Likelihood::with_prior_of))]
+fn with_prior(prior: Option<NormalPriorV1>, x: f64, sum: f64) -> f64
     ensures { result ≡ with_prior_of prior x sum }
 {
     match prior {
-        Prior::Absent => sum,
-        Prior::Normal(q) => {
+        None => sum,
+        Some(q) => {
             let standardized = (x - q.mean) / q.sigma;
             sum + standardized * standardized
         }
@@ -108,86 +91,118 @@ fn with_prior(prior: Prior, x: f64, sum: f64) -> f64
 }
 
 // The speed's prior is added first.
+#[tactic(auto, unfolding(definition::specs::Likelihood::with_priors_of))]
 fn with_priors(priors: TruingPriorsV1, p: Point, sum: f64) -> f64
     ensures { result ≡ with_priors_of priors p sum }
 {
-    let mv_prior = priors.muzzle_velocity_fps;
-    let bc_prior = priors.ballistic_coefficient;
-    with_prior(bc_prior, p.bc, with_prior(mv_prior, p.mv, sum))
+    let with_mv = with_prior(priors.muzzle_velocity_fps, p.mv, sum);
+    with_prior(priors.ballistic_coefficient, p.bc, with_mv)
 }
 
-// One sum, from the observations on through the priors. Whether it is finite is judged by the caller.
-pub fn objective_sum<'a>(
-    ranges: &'a [f64],
-    drops: &'a [f64],
-    sigmas: &'a [f64],
-    priors: TruingPriorsV1,
-    p: Point,
-    predicted: &'a [f64],
-) -> f64
-    ensures { result ≡ with_priors_of priors p (chi_square_of (observations_of ranges.now drops.now sigmas.now) predicted.now) }
-{
-    with_priors(priors, p, chi_square(ranges, drops, sigmas, predicted))
+impl Columns<'_> {
+    // How far the columns are read together.
+    fn len(self) -> usize
+        ensures len { result ≡ length (observations_in self.entry) }
+        ensures within_drops { result ≤ length self.entry.drops.now }
+        ensures within_sigmas { result ≤ length self.entry.sigmas.now }
+    {
+        slices::shortest(self.ranges.len(), self.drops.len(), self.sigmas.len())
+    }
+
+    // The i-th observation, counted from 0.
+    pub fn get(self, i: usize) -> Option<WeightedTruingObservationV1>
+        ensures { result ≡ slice_get (observations_in self.entry) i }
+    {
+        let range_yd = *self.ranges.get(i)?;
+        let drop = *self.drops.get(i)?;
+        let sigma = *self.sigmas.get(i)?;
+        Some(WeightedTruingObservationV1 {
+            range_yd,
+            drop,
+            sigma,
+        })
+    }
+
+    // The squared standardized residuals, summed from the first.
+    #[tactic(auto, unfolding(definition::specs::Likelihood::chi_square_of))]
+    pub fn chi_square(self, predicted: &[f64]) -> f64
+        ensures { result ≡ chi_square_of (observations_in self.entry) predicted.now }
+    {
+        let n = self.len().min(predicted.len());
+        let mut sum = 0.0;
+        for i in 0..n {
+            let standardized = (predicted[i] - self.drops[i]) / self.sigmas[i];
+            sum = sum + standardized * standardized;
+        }
+        sum
+    }
+
+    // One sum, from the observations on through the priors. Whether it is finite is judged by the caller.
+    #[tactic(auto, unfolding(definition::specs::Likelihood::with_priors_of, definition::specs::Likelihood::chi_square_of))]
+    pub fn objective_sum(self, priors: TruingPriorsV1, p: Point, predicted: &[f64]) -> f64
+        ensures { result ≡ with_priors_of priors p (chi_square_of (observations_in self.entry) predicted.now) }
+    {
+        with_priors(priors, p, self.chi_square(predicted))
+    }
+
+    // All observations, each beside its row.
+    #[tactic(auto, unfolding(definition::specs::Likelihood::sums_of))]
+    fn sum_rows(self, p: Point, rows: RowColumns<'_>) -> Sums
+        ensures { result ≡ sums_of p (observations_in self.entry) (rows_in rows.entry) }
+    {
+        let n = self.len().min(rows.len());
+        let mut sums = Sums {
+            a00: 0.0,
+            a01: 0.0,
+            a11: 0.0,
+            gradient_mv: 0.0,
+            gradient_bc: 0.0,
+            chi_square: 0.0,
+            fractional_mv: 0.0,
+            fractional_bc: 0.0,
+        };
+        for i in 0..n {
+            let row = Row {
+                predicted_drop: rows.predicted[i],
+                d_drop_d_mv: rows.by_mv[i],
+                d_drop_d_bc: rows.by_bc[i],
+            };
+            sums = accumulate(p, sums, self.drops[i], self.sigmas[i], row);
+        }
+        sums
+    }
+
+    // The information, the gradient and the diagnostics at a point, from the rows there.
+    #[tactic(auto, unfolding(definition::specs::Likelihood::from_sums, definition::specs::Likelihood::sums_of))]
+    pub fn evaluate(self, priors: TruingPriorsV1, p: Point, rows: RowColumns<'_>) -> Evaluation
+        ensures { result ≡ from_sums priors p (sums_of p (observations_in self.entry) (rows_in rows.entry)) }
+    {
+        finished(priors, p, self.sum_rows(p, rows))
+    }
 }
 
 // ---- the five questions and their rows
 
+// A step of a coordinate: a part of it, and no less than the least.
+#[tactic(auto, unfolding(numeric::specs::Numeric::max_of))]
+fn step(x: f64, least: f64) -> f64
+    ensures { result ≡ max_of (x ⊗ step_fraction) least }
+{
+    numeric::max(x * STEP_FRACTION, least)
+}
+
+#[tactic(auto, unfolding(definition::specs::Likelihood::mv_step_of))]
 pub fn mv_step(mv: f64) -> f64
     ensures { result ≡ mv_step_of mv }
 {
-    numeric::max(mv * STEP_FRACTION, LEAST_MV_STEP)
+    step(mv, LEAST_MV_STEP)
 }
 
+#[tactic(auto, unfolding(definition::specs::Likelihood::bc_step_of))]
 pub fn bc_step(bc: f64) -> f64
     ensures { result ≡ bc_step_of bc }
 {
-    numeric::max(bc * STEP_FRACTION, LEAST_BC_STEP)
-}
-
-pub fn mv_plus(p: Point) -> Point
-    ensures { result ≡ mv_plus_at p }
-{
-    Point {
-        mv: p.mv + mv_step(p.mv),
-        bc: p.bc,
-    }
-}
-
-pub fn mv_minus(p: Point) -> Point
-    ensures { result ≡ mv_minus_at p }
-{
-    Point {
-        mv: p.mv - mv_step(p.mv),
-        bc: p.bc,
-    }
-}
-
-pub fn bc_plus(p: Point) -> Point
-    ensures { result ≡ bc_plus_at p }
-{
-    Point {
-        mv: p.mv,
-        bc: p.bc + bc_step(p.bc),
-    }
-}
-
-pub fn bc_minus(p: Point) -> Point
-    ensures { result ≡ bc_minus_at p }
-{
-    Point {
-        mv: p.mv,
-        bc: p.bc - bc_step(p.bc),
-    }
-}
-
-// 0 in place of a missing drop.
-fn drop_or_0(drop: f64, missing: bool) -> f64
-    ensures { result ≡ drop_or0 (entry_of drop missing) }
-{
-    if missing {
-        return 0.0;
-    }
-    drop
+    step(bc, LEAST_BC_STEP)
 }
 
 // (plus - minus) / (2 * step)
@@ -197,34 +212,57 @@ fn slope_of(step: f64, plus: f64, minus: f64) -> f64
     (plus - minus) / (2.0 * step)
 }
 
-// A reply's drops go over the first places of the slice.
-pub fn lay_drops(out: &mut [f64], drops: &[f64], missing: &[bool])
-    ensures { out.new ≡ laid_over (map drop_or0 (entries_of drops.now missing.now)) out.old }
+// A reply's drops go over the first places of the slice, 0 in place of a missing one.
+pub fn lay_drops(out: &mut [f64], entries: &[Option<f64>])
+    ensures { out.new ≡ laid_over (map drop_or0 entries.now) out.old }
 {
-    let n = slices::shortest(out.len(), drops.len(), missing.len());
-    let mut i = 0usize;
-    while i < n {
-        out[i] = drop_or_0(drops[i], missing[i]);
-        i += 1usize;
+    let n = out.len().min(entries.len());
+    for i in 0..n {
+        out[i] = entries[i].unwrap_or(0.0);
     }
 }
 
 // The slice holds the drops at the plus point; with the reply at the minus point, the slopes go over its first places.
-pub fn lay_slopes(out: &mut [f64], step: f64, drops: &[f64], missing: &[bool])
-    ensures { out.new ≡ laid_over (slopes step out.old (map drop_or0 (entries_of drops.now missing.now))) out.old }
+pub fn lay_slopes(out: &mut [f64], step: f64, entries: &[Option<f64>])
+    ensures { out.new ≡ laid_over (slopes step out.old (map drop_or0 entries.now)) out.old }
 {
-    let n = slices::shortest(out.len(), drops.len(), missing.len());
-    let mut i = 0usize;
-    while i < n {
+    let n = out.len().min(entries.len());
+    for i in 0..n {
         let plus = out[i];
-        out[i] = slope_of(step, plus, drop_or_0(drops[i], missing[i]));
-        i += 1usize;
+        out[i] = slope_of(step, plus, entries[i].unwrap_or(0.0));
+    }
+}
+
+impl RowColumns<'_> {
+    // How far the columns are read together.
+    fn len(self) -> usize
+        ensures len { result ≡ length (rows_in self.entry) }
+        ensures within_predicted { result ≤ length self.entry.predicted.now }
+        ensures within_mv { result ≤ length self.entry.by_mv.now }
+        ensures within_bc { result ≤ length self.entry.by_bc.now }
+    {
+        slices::shortest(self.predicted.len(), self.by_mv.len(), self.by_bc.len())
+    }
+
+    // The i-th row, counted from 0.
+    pub fn get(self, i: usize) -> Option<Row>
+        ensures { result ≡ slice_get (rows_in self.entry) i }
+    {
+        let predicted_drop = *self.predicted.get(i)?;
+        let d_drop_d_mv = *self.by_mv.get(i)?;
+        let d_drop_d_bc = *self.by_bc.get(i)?;
+        Some(Row {
+            predicted_drop,
+            d_drop_d_mv,
+            d_drop_d_bc,
+        })
     }
 }
 
 // ---- the evaluation
 
 // One observation more: the two scaled columns, and the fractional sensitivities at the point.
+#[tactic(auto, unfolding(definition::specs::Likelihood::accumulate_of))]
 fn accumulate(p: Point, sums: Sums, measured: f64, sigma: f64, row: Row) -> Sums
     ensures { result ≡ accumulate_of p sums measured sigma row }
 {
@@ -245,51 +283,14 @@ fn accumulate(p: Point, sums: Sums, measured: f64, sigma: f64, row: Row) -> Sums
     }
 }
 
-// All observations, each beside its row.
-fn sum_rows<'a>(
-    p: Point,
-    ranges: &'a [f64],
-    drops: &'a [f64],
-    sigmas: &'a [f64],
-    predicted: &'a [f64],
-    by_mv: &'a [f64],
-    by_bc: &'a [f64],
-) -> Sums
-    ensures { result ≡ sums_of p (observations_of ranges.now drops.now sigmas.now) (zip_with3 row_of predicted.now by_mv.now by_bc.now) }
-{
-    let shots = slices::shortest(ranges.len(), drops.len(), sigmas.len());
-    let rows = slices::shortest(predicted.len(), by_mv.len(), by_bc.len());
-    let n = slices::shorter(shots, rows);
-    let mut sums = Sums {
-        a00: 0.0,
-        a01: 0.0,
-        a11: 0.0,
-        gradient_mv: 0.0,
-        gradient_bc: 0.0,
-        chi_square: 0.0,
-        fractional_mv: 0.0,
-        fractional_bc: 0.0,
-    };
-    let mut i = 0usize;
-    while i < n {
-        let row = Row {
-            predicted_drop: predicted[i],
-            d_drop_d_mv: by_mv[i],
-            d_drop_d_bc: by_bc[i],
-        };
-        sums = accumulate(p, sums, drops[i], sigmas[i], row);
-        i += 1usize;
-    }
-    sums
-}
-
 // What a prior adds to a diagonal entry of the information.
-fn prior_information(prior: Prior, scale: f64) -> f64
+#[tactic(auto, unfolding(definition::specs::Likelihood::prior_information_of))]
+fn prior_information(prior: Option<NormalPriorV1>, scale: f64) -> f64
     ensures { result ≡ prior_information_of prior scale }
 {
     match prior {
-        Prior::Absent => 0.0,
-        Prior::Normal(q) => {
+        None => 0.0,
+        Some(q) => {
             let j = scale / q.sigma;
             0.0 + j * j
         }
@@ -297,12 +298,13 @@ fn prior_information(prior: Prior, scale: f64) -> f64
 }
 
 // An entry of the gradient with what the prior adds to it.
-fn with_prior_gradient(prior: Prior, scale: f64, x: f64, gradient: f64) -> f64
+#[tactic(auto, unfolding(definition::specs::Likelihood::with_prior_gradient_of))]
+fn with_prior_gradient(prior: Option<NormalPriorV1>, scale: f64, x: f64, gradient: f64) -> f64
     ensures { result ≡ with_prior_gradient_of prior scale x gradient }
 {
     match prior {
-        Prior::Absent => gradient,
-        Prior::Normal(q) => {
+        None => gradient,
+        Some(q) => {
             let j = scale / q.sigma;
             let standardized = (x - q.mean) / q.sigma;
             gradient + j * standardized
@@ -311,6 +313,7 @@ fn with_prior_gradient(prior: Prior, scale: f64, x: f64, gradient: f64) -> f64
 }
 
 // The fractional sensitivity of the coefficient over that of the speed, 0 where that of the speed is not above 0.
+#[tactic(auto, unfolding(definition::specs::Likelihood::sensitivity_ratio_of))]
 fn sensitivity_ratio(fractional_mv: f64, fractional_bc: f64) -> f64
     ensures { result ≡ sensitivity_ratio_of fractional_mv fractional_bc }
 {
@@ -321,6 +324,7 @@ fn sensitivity_ratio(fractional_mv: f64, fractional_bc: f64) -> f64
 }
 
 // The sums with the priors.
+#[tactic(auto, unfolding(definition::specs::Likelihood::from_sums))]
 fn finished(priors: TruingPriorsV1, p: Point, sums: Sums) -> Evaluation
     ensures { result ≡ from_sums priors p sums }
 {
@@ -346,24 +350,4 @@ fn finished(priors: TruingPriorsV1, p: Point, sums: Sums) -> Evaluation
         bc_sensitivity_ratio: sensitivity_ratio(sums.fractional_mv, sums.fractional_bc),
         data_condition_number: matrix::column_condition(data_information),
     }
-}
-
-// The information, the gradient and the diagnostics at a point, from the rows there.
-pub fn evaluate<'a>(
-    priors: TruingPriorsV1,
-    p: Point,
-    ranges: &'a [f64],
-    drops: &'a [f64],
-    sigmas: &'a [f64],
-    predicted: &'a [f64],
-    by_mv: &'a [f64],
-    by_bc: &'a [f64],
-) -> Evaluation
-    ensures { result ≡ from_sums priors p (sums_of p (observations_of ranges.now drops.now sigmas.now) (zip_with3 row_of predicted.now by_mv.now by_bc.now)) }
-{
-    finished(
-        priors,
-        p,
-        sum_rows(p, ranges, drops, sigmas, predicted, by_mv, by_bc),
-    )
 }

@@ -1,5 +1,7 @@
--- The laws behind the functions' proofs, and the theorems: what is written reads back, and a line read word by word is the line.
-pub mod Steps
+-- The laws behind the functions' proofs, and the theorem that a line read word by word is the line.
+pub mod Words
+pub mod Pushing
+pub mod Parentheses
 pub mod Long
 pub mod Track
 pub mod Lines

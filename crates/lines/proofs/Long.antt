@@ -1,10 +1,10 @@
 -- A word of more than 20 bytes is no part of a form: where one stands, the words are malformed. Assumes nothing.
+use Rattle.std.specs.Prelude.{Option, None, Some}
 use Prim.Native.Nat.{ℕ, ◌≤◌, ◌<◌}
 use Prim.Native.String.{String}
 use mathlib.Core.Path.{◌≡◌, refl, sym, ap}
 use mathlib.Core.Bool.{Bool, true, false, ◌||◌, cond, true≢false}
 use mathlib.Core.List.{List, [], ◌∷◌}
-use mathlib.Core.Option.{Option, none, some}
 use native.Mathlib.Omega.{arith}
 use borrow.Author.Tests.{ltb-true}
 use lib.Dec.{ltb}
@@ -13,8 +13,8 @@ use Rattle.definition.specs.Run.{Entry}
 use Rattle.words.specs.Words.{bytes, is}
 use Rattle.words.proofs.Rule.{same_length}
 use Rattle.numerals.specs.Numbers.{double_of, count_of}
-use Rattle.lines.specs.Lines.{Form, malformed, if_read, sigma_read, entry_read, in_front, entries_read, entered_of, shot_of, prior_of, distance_of, put_in_of}
-use Rattle.lines.specs.Lines.{exchange_of, take_out_of, drops_of, with0, with1, with2, with3, form_of_words}
+use Rattle.lines.specs.Lines.{Form, malformed, if_read, sigma_read, entry_read, in_front, entries_read, entered_of, shot_of, prior_of, distance_of, change_of, put_in, exchange}
+use Rattle.lines.specs.Lines.{take_out_of, drops_of, with0, with1, with2, with3, form_of_words}
 use Rattle.numerals.proofs.Numbers.{no_double, long_count}
 
 abbrev pub long : List ℕ → Bool
@@ -30,19 +30,19 @@ module _ (s : List ℕ) (t : long s ≡ true) where
   h : 20 < length s
   h = ltb-true 20 (length s) t
 
-  pub long_double : double_of s ≡ none
+  pub long_double : double_of s ≡ None
   long_double = no_double s (λ e. omega (arith, e, h))
 
-  pub long_no_count : count_of s ≡ none
+  pub long_no_count : count_of s ≡ None
   long_no_count = long_count s h
 
   pub long_other : (w : String) → length (bytes w) ≤ 20 → is w s ≡ false
   long_other w k = same_length s (bytes w) (λ e. omega (arith, e, h))
 
-  pub long_sigma : sigma_read s ≡ none
+  pub long_sigma : sigma_read s ≡ None
   long_sigma = rw (long_double, long_other "none" (omega arith))
 
-  pub long_entry : entry_read s ≡ none
+  pub long_entry : entry_read s ≡ None
   long_entry = rw (long_double, long_other "missing" (omega arith))
 
 -- ---- what every form of a kind has
@@ -65,8 +65,8 @@ module _ (P : Form → Type 0) (bad : P malformed) where
   all_3 f (a ∷ ws) h = all_2 (f a) ws (h a)
 
   pub if_all : {A : Type 0} (o : Option A) (f : A → Form) → ((a : A) → P (f a)) → P (if_read o f)
-  if_all none f h = bad
-  if_all (some a) f h = h a
+  if_all None f h = bad
+  if_all (Some a) f h = h a
 
 -- ---- a form with a long word
 
@@ -103,17 +103,17 @@ by_first : (v : Bool) {x y : Form} → x ≡ malformed → y ≡ malformed → c
 by_first true p q = p
 by_first false p q = q
 
-entries_bad : (ws : List (List ℕ)) → any_long ws ≡ true → entries_read ws ≡ none
+entries_bad : (ws : List (List ℕ)) → any_long ws ≡ true → entries_read ws ≡ None
 entries_bad [] e = absurd (true≢false (sym e))
 entries_bad (w ∷ ws) e =
     either (long w) (any_long ws) (λ t. rw (long_entry w t)) (λ t. rw (entries_bad ws t) (front_none (entry_read w))) e where
-      front_none : (o : Option Entry) → in_front o none ≡ none
-      front_none none = refl
-      front_none (some d) = refl
+      front_none : (o : Option Entry) → in_front o None ≡ None
+      front_none None = refl
+      front_none (Some d) = refl
 
 -- words of which one after the first is long
 later_bad : (w : List ℕ) (ws : List (List ℕ)) → any_long ws ≡ true → form_of_words (w ∷ ws) ≡ malformed
-unfolding entered_of shot_of prior_of distance_of put_in_of exchange_of take_out_of
+unfolding entered_of shot_of prior_of distance_of change_of take_out_of
 later_bad w ws e =
     by_first (is "entered" w) (bad_2 _ ws (λ a b t. rw (long_double a t)) (λ a b t. rw (long_double b t) (if_bad (double_of a) _ (λ x. refl))) e)
     (by_first (is "shot" w)

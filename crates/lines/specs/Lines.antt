@@ -1,7 +1,6 @@
 -- A line of the host, without its line feed: ( and then words with one blank between them and then ), which together are one of the forms.
-use Rattle.std.specs.Prelude.{ℕ, Bool, true, false, cond, List, [], ◌∷◌, eqb, Float}
-use Rattle.std.proofs.Math.Option.{Option, none, some}
-use Rattle.definition.specs.Run.{Entry, missing, drop}
+use Rattle.std.specs.Prelude.{ℕ, Bool, true, false, cond, List, [], ◌∷◌, eqb, Float, Option, None, Some}
+use Rattle.definition.specs.Run.{Entry}
 use Rattle.words.specs.Words.{is}
 use Rattle.numerals.specs.Numbers.{double_of, count_of}
 
@@ -26,38 +25,32 @@ pub data Form : Type 0 where
 
 -- a field that is read, or else the line is malformed
 abbrev pub if_read : {A : Type 0} → Option A → (A → Form) → Form
-if_read none f = malformed
-if_read (some a) f = f a
+if_read None f = malformed
+if_read (Some a) f = f a
 
--- a sigma, of a word that is read as a double, and that may be the word none, which says that there is no sigma
-abbrev pub sigma_from : Option Float → Bool → Option (Option Float)
-sigma_from (some x) is_none = some (some x)
-sigma_from none true = some none
-sigma_from none false = none
+-- a word that is read as a double, and that may be the one that stands for none
+abbrev pub double_or : Option Float → Bool → Option (Option Float)
+double_or (Some x) is_it = Some (Some x)
+double_or None true = Some None
+double_or None false = None
 
--- a sigma: a double or the word none
+-- a sigma: a double or the word none, which says that there is no sigma
 abbrev pub sigma_read : List ℕ → Option (Option Float)
-sigma_read w = sigma_from (double_of w) (is "none" w)
-
--- an entry, of a word that is read as a double, and that may be the word missing
-abbrev pub entry_from : Option Float → Bool → Option Entry
-entry_from (some x) is_missing = some (drop x)
-entry_from none true = some missing
-entry_from none false = none
+sigma_read w = double_or (double_of w) (is "none" w)
 
 -- an entry: a double or the word missing
 abbrev pub entry_read : List ℕ → Option Entry
-entry_read w = entry_from (double_of w) (is "missing" w)
+entry_read w = double_or (double_of w) (is "missing" w)
 
 -- an entry before others, where all are read
 abbrev pub in_front : Option Entry → Option (List Entry) → Option (List Entry)
-in_front none es = none
-in_front (some e) none = none
-in_front (some e) (some es) = some (e ∷ es)
+in_front None es = None
+in_front (Some e) None = None
+in_front (Some e) (Some es) = Some (e ∷ es)
 
 -- the entries that words are, where each of them is one
 abbrev pub entries_read : List (List ℕ) → Option (List Entry)
-entries_read [] = some []
+entries_read [] = Some []
 entries_read (w ∷ ws) = in_front (entry_read w) (entries_read ws)
 
 -- ---- forms by their fields
@@ -86,13 +79,9 @@ distance_of x s = if_read x (λ a. if_read s (λ t. distance a t))
 abbrev pub open_of : Bool → Form
 open_of is_plain = cond is_plain open_plain malformed
 
--- (put-in PLACE DISTANCE SIGMA)
-unfoldable pub put_in_of : Option ℕ → Option Float → Option (Option Float) → Form
-put_in_of k x s = if_read k (λ n. if_read x (λ a. if_read s (λ t. put_in n a t)))
-
--- (exchange PLACE DISTANCE SIGMA)
-unfoldable pub exchange_of : Option ℕ → Option Float → Option (Option Float) → Form
-exchange_of k x s = if_read k (λ n. if_read x (λ a. if_read s (λ t. exchange n a t)))
+-- (put-in PLACE DISTANCE SIGMA), (exchange PLACE DISTANCE SIGMA)
+unfoldable pub change_of : (ℕ → Float → Option Float → Form) → Option ℕ → Option Float → Option (Option Float) → Form
+change_of f k x s = if_read k (λ n. if_read x (λ a. if_read s (λ t. f n a t)))
 
 -- (take-out PLACE)
 unfoldable pub take_out_of : Option ℕ → Form
@@ -100,28 +89,28 @@ take_out_of k = if_read k (λ n. take_out n)
 
 -- (drops D ..), with any number of entries
 abbrev pub drops_of : Option (List Entry) → Form
-drops_of none = malformed
-drops_of (some es) = drops es
+drops_of None = malformed
+drops_of (Some es) = drops es
 
 -- ---- forms by their words
 
 -- a form with no word after the first
-abbrev pub with0 : Form → List (List ℕ) → Form
+abbrev pub with0 : {A : Type 0} → Form → List A → Form
 with0 f [] = f
 with0 f (a ∷ ws) = malformed
 
 -- with one word after the first, and no more
-abbrev pub with1 : (List ℕ → Form) → List (List ℕ) → Form
+abbrev pub with1 : {A : Type 0} → (A → Form) → List A → Form
 with1 f [] = malformed
 with1 f (a ∷ ws) = with0 (f a) ws
 
 -- with two
-abbrev pub with2 : (List ℕ → List ℕ → Form) → List (List ℕ) → Form
+abbrev pub with2 : {A : Type 0} → (A → A → Form) → List A → Form
 with2 f [] = malformed
 with2 f (a ∷ ws) = with1 (f a) ws
 
 -- with three
-abbrev pub with3 : (List ℕ → List ℕ → List ℕ → Form) → List (List ℕ) → Form
+abbrev pub with3 : {A : Type 0} → (A → A → A → Form) → List A → Form
 with3 f [] = malformed
 with3 f (a ∷ ws) = with2 (f a) ws
 
@@ -136,9 +125,9 @@ form_of_words (w ∷ ws) =
     (cond (is "open" w) (with1 (λ a. open_of (is "plain" a)) ws)
     (cond (is "drops" w) (drops_of (entries_read ws))
     (cond (is "refused" w) (with0 refused ws)
-    (cond (is "put-in" w) (with3 (λ a b c. put_in_of (count_of a) (double_of b) (sigma_read c)) ws)
+    (cond (is "put-in" w) (with3 (λ a b c. change_of put_in (count_of a) (double_of b) (sigma_read c)) ws)
     (cond (is "take-out" w) (with1 (λ a. take_out_of (count_of a)) ws)
-    (cond (is "exchange" w) (with3 (λ a b c. exchange_of (count_of a) (double_of b) (sigma_read c)) ws)
+    (cond (is "exchange" w) (with3 (λ a b c. change_of exchange (count_of a) (double_of b) (sigma_read c)) ws)
     (cond (is "asked" w) (with0 asked ws)
     (cond (is "page" w) (with0 page ws) malformed)))))))))))
 
@@ -156,29 +145,29 @@ words_of (c ∷ s) = cond (eqb c 32) ([] ∷ words_of s) (put_first c (words_of 
 
 -- what follows a first byte (
 abbrev pub after_open : List ℕ → Option (List ℕ)
-after_open [] = none
-after_open (c ∷ s) = cond (eqb c 40) (some s) none
+after_open [] = None
+after_open (c ∷ s) = cond (eqb c 40) (Some s) None
 
 -- one more in front, where there is a list
 abbrev pub on_front : {A : Type 0} → A → Option (List A) → Option (List A)
-on_front a none = none
-on_front a (some s) = some (a ∷ s)
+on_front a None = None
+on_front a (Some s) = Some (a ∷ s)
 
 -- what stands before a last byte )
 abbrev pub before_close : List ℕ → Option (List ℕ)
-before_close [] = none
-before_close (c ∷ []) = cond (eqb c 41) (some []) none
+before_close [] = None
+before_close (c ∷ []) = cond (eqb c 41) (Some []) None
 before_close (c ∷ d ∷ s) = on_front c (before_close (d ∷ s))
 
 -- what stands between the parentheses
 abbrev pub of_inner : Option (List ℕ) → Form
-of_inner none = malformed
-of_inner (some s) = form_of_words (words_of s)
+of_inner None = malformed
+of_inner (Some s) = form_of_words (words_of s)
 
 -- what follows the first parenthesis
 abbrev pub of_opened : Option (List ℕ) → Form
-of_opened none = malformed
-of_opened (some s) = of_inner (before_close s)
+of_opened None = malformed
+of_opened (Some s) = of_inner (before_close s)
 
 -- the form that a line is
 unfoldable pub form_of : List ℕ → Form

@@ -1,28 +1,28 @@
 -- A change of the requested distances, as an edit of the definition.
-use Rattle.std.specs.Prelude.{ℕ, suc, ◌-◌, Bool, true, [], ◌∷◌, ltb, Float}
-use Rattle.numeric.specs.Numeric.{zero64}
+use Rattle.std.specs.Prelude.{ℕ, suc, ◌-◌, Bool, true, [], ◌∷◌, ltb, Option, None, Some}
+use Rattle.definition.specs.Request.{Requested}
 use Rattle.definition.specs.Likelihood.{Rows}
 use Rattle.definition.specs.Whole.{Edit, put_in, take_out, exchange}
 use Rattle.definition.specs.declared.Row.{Row}
-use Rattle.report.specs.Places.{requested_at}
 use Rattle.lists.specs.declared.Change.{Change}
 use Rattle.lists.specs.declared.Change.TheVariants.{PutIn, TakeOut, Exchange}
 
 abbrev pub edit_of : Change → Edit
-edit_of (PutIn place range sigma) = put_in place (requested_at range sigma)
+edit_of (PutIn place d) = put_in place d
 edit_of (TakeOut place) = take_out place
-edit_of (Exchange place range sigma) = exchange place (requested_at range sigma)
+edit_of (Exchange place d) = exchange place d
 
--- the new distance, and its sigma; 0 where there is none
-abbrev pub range_of : Change → Float
-range_of (PutIn place range sigma) = range
-range_of (TakeOut place) = zero64
-range_of (Exchange place range sigma) = range
+-- the place of an edit
+abbrev pub place_of : Edit → ℕ
+place_of (put_in i d) = i
+place_of (take_out i) = i
+place_of (exchange i d) = i
 
-abbrev pub sigma_in : Change → Float
-sigma_in (PutIn place range sigma) = sigma
-sigma_in (TakeOut place) = zero64
-sigma_in (Exchange place range sigma) = sigma
+-- the new distance, if it brings one
+abbrev pub entry_in : Edit → Option Requested
+entry_in (put_in i d) = Some d
+entry_in (take_out i) = None
+entry_in (exchange i d) = Some d
 
 -- how many there are afterwards
 abbrev pub size_after : Edit → ℕ → ℕ

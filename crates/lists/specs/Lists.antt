@@ -1,13 +1,10 @@
--- What the arrays of a run's lists stand for, and how a request in slices goes into them.
-use Rattle.std.specs.Prelude.{◌≤◌, ◌≡◌, Bool, true, false, List, length, take, replicate, Float}
+-- What the arrays of a run's lists stand for, and how a request goes into them.
+use Rattle.std.specs.Prelude.{◌≤◌, ◌≡◌, Bool, true, false, List, length, map, take, replicate, Float, None}
 use Rattle.numeric.specs.Numeric.{zero64}
-use Rattle.definition.specs.Lists.{zip_with}
 use Rattle.definition.specs.Meaning.{observations_of}
 use Rattle.definition.specs.Request.{Observation, Requested}
-use Rattle.definition.specs.declared.Number.{Number}
-use Rattle.definition.specs.declared.Number.TheVariants.{Absent, Given}
-use Rattle.slices.specs.Slices.{laid_over, shortest_of}
-use Rattle.report.specs.Places.{requested_at}
+use Rattle.definition.specs.Run.{Entry, drop_or0}
+use Rattle.slices.specs.Slices.{laid_over}
 use Rattle.lists.specs.declared.Shots.{Shots}
 use Rattle.lists.specs.declared.Wanted.{Wanted}
 
@@ -17,7 +14,7 @@ abbrev pub observations_at : Shots → List Observation
 observations_at s = observations_of (take s.n s.ranges) (take s.n s.drops) (take s.n s.sigmas)
 
 abbrev pub requested_in : Wanted → List Requested
-requested_in w = zip_with requested_at (take w.n w.ranges) (take w.n w.sigmas)
+requested_in w = take w.n w.entries
 
 -- whether the list of requested distances has an entry; within the 64 places their number says so
 pub record HasWanted (w : Wanted) (r : Bool) : Type 0 where
@@ -30,19 +27,21 @@ pub record HasWanted (w : Wanted) (r : Bool) : Type 0 where
 abbrev pub places_of : List Float → List Float
 places_of xs = laid_over xs (replicate 64 zero64)
 
--- 0 stands for a sigma that is not given
-abbrev pub sigma_or0 : Float → Bool → Float
-sigma_or0 x true = x
-sigma_or0 x false = zero64
+-- the drops of a reply, 0 in place of a missing one
+abbrev pub drops_in : List Entry → List Float
+drops_in es = map drop_or0 es
 
-abbrev pub stored_sigma : Number → Float
-stored_sigma Absent = zero64
-stored_sigma (Given x) = x
+abbrev pub shots_from : List Observation → Shots
+shots_from obs = record {
+  ranges = places_of (map (λ (o : Observation). o.range_yd) obs);
+  drops = places_of (map (λ (o : Observation). o.drop) obs);
+  sigmas = places_of (map (λ (o : Observation). o.sigma) obs);
+  n = length obs;
+}
 
-abbrev pub shots_from : List Float → List Float → List Float → Shots
-shots_from ranges drops sigmas =
-    record { ranges = places_of ranges; drops = places_of drops; sigmas = places_of sigmas; n = shortest_of (length ranges) (length drops) (length sigmas) }
+-- what stands in the places past the last requested distance
+abbrev pub no_request : Requested
+no_request = record { range_yd = zero64; future_observation_sigma = None }
 
-abbrev pub wanted_from : List Float → List Float → List Bool → Wanted
-wanted_from distances future given =
-    record { ranges = places_of distances; sigmas = places_of (zip_with sigma_or0 future given); n = shortest_of (length distances) (length future) (length given) }
+abbrev pub wanted_from : List Requested → Wanted
+wanted_from ds = record { entries = laid_over ds (replicate 64 no_request); n = length ds }

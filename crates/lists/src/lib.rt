@@ -1,15 +1,15 @@
-// The observations and the requested distances of a run, each list in the first places of arrays of 64; and changes of the requested distances and of their
-// rows.
+// The observations and the requested distances of a run, each list in the first places of arrays of 64; and changes of the latter and of their rows.
 #![tactic(auto)]
 
-ghost use Rattle.std.specs.Prelude.{◌≡◌, ◌≤◌, ◌-◌, T, take};
-ghost use Rattle.definition.specs.Lists.{zip_with};
+ghost use Rattle.std.specs.Prelude.{◌≡◌, ◌≤◌, T, take};
 ghost use Rattle.definition.specs.Whole.{edited, edited_numbers, edited_rows, placed};
-ghost use Rattle.lists.specs.Lists.{requested_in, HasWanted, places_of, sigma_or0, stored_sigma, shots_from, wanted_from};
-ghost use Rattle.lists.specs.Changing.{edit_of, range_of, sigma_in, size_after, roomy, rows_from};
+ghost use Rattle.likelihood.specs.Columns.{observations_in};
 ghost use Rattle.stencil.specs.Stencil.{rows_at};
+ghost use Rattle.lists.specs.Lists.{HasWanted, observations_at, requested_in, places_of, drops_in, shots_from, wanted_from};
+ghost use Rattle.lists.specs.Changing.{edit_of, place_of, entry_in, size_after, roomy, rows_from};
 
-use definition::{Number, Row};
+use definition::{Row, TruingPredictionRequestV1, WeightedTruingObservationV1};
+use likelihood::Columns;
 use stencil::StencilRows;
 
 // The observations, in the first n places.
@@ -21,226 +21,189 @@ pub struct Shots {
     pub n: usize,
 }
 
-// The requested distances, in the first n places. A sigma of 0 stands for none.
+// The requested distances, in the first n places.
 #[derive(Clone, Copy)]
 pub struct Wanted {
-    pub ranges: [f64; 64],
-    pub sigmas: [f64; 64],
+    pub entries: [TruingPredictionRequestV1; 64],
     pub n: usize,
 }
 
+// What stands in the places past the last requested distance.
+const NO_REQUEST: TruingPredictionRequestV1 = TruingPredictionRequestV1 {
+    range_yd: 0.0,
+    future_observation_sigma: None,
+};
+
 // ---- the lists of a request
 
-// The slice in the first places of an array.
-fn filled(s: &[f64]) -> [f64; 64]
-    ensures { result ≡ places_of s.now }
+// The drops of a reply in the first places of an array, 0 in place of a missing one.
+pub fn drops_of(entries: &[Option<f64>]) -> [f64; 64]
+    ensures { result ≡ places_of (drops_in entries.now) }
 {
-    let mut a = [0.0; 64];
-    let mut i = 0usize;
-    while i < 64 {
-        if i >= s.len() {
-            return a;
+    let mut drops = [0.0; 64];
+    likelihood::lay_drops(&mut drops, entries);
+    drops
+}
+
+impl Shots {
+    #[tactic(auto, using(crate::proofs::Arrays::column_suc, crate::proofs::Arrays::column_all))]
+    pub fn new(observations: &[WeightedTruingObservationV1]) -> Shots
+        ensures { result ≡ shots_from observations.now }
+    {
+        let mut shots = Shots {
+            ranges: [0.0; 64],
+            drops: [0.0; 64],
+            sigmas: [0.0; 64],
+            n: observations.len(),
+        };
+        let n = observations.len().min(64);
+        for i in 0..n {
+            let o = observations[i];
+            shots.ranges[i] = o.range_yd;
+            shots.drops[i] = o.drop;
+            shots.sigmas[i] = o.sigma;
         }
-        a[i] = s[i];
-        i += 1usize;
+        shots
     }
-    a
-}
 
-// 0 in place of a sigma that is not given.
-fn sigma_or_0(sigma: f64, given: bool) -> f64
-    ensures { result ≡ sigma_or0 sigma given }
-{
-    if given {
-        return sigma;
-    }
-    0.0
-}
-
-// What is stored for a sigma that may be absent: 0 stands for none.
-pub fn stored_sigma(sigma: Number) -> f64
-    ensures { result ≡ stored_sigma sigma }
-{
-    match sigma {
-        Number::Absent => 0.0,
-        Number::Given(x) => x,
-    }
-}
-
-// The sigmas in the first places of an array.
-fn sigmas_or_0(future: &[f64], given: &[bool]) -> [f64; 64]
-    ensures { result ≡ places_of (zip_with sigma_or0 future.now given.now) }
-{
-    let mut a = [0.0; 64];
-    let mut i = 0usize;
-    while i < 64 {
-        if i >= future.len() {
-            return a;
+    // The observations in columns.
+    pub fn columns(&self) -> Columns<'_>
+        ensures observations { observations_in result ≡ observations_at self.now }
+        ensures ranges { result.ranges.now ≡ take self.now.n self.now.ranges }
+    {
+        Columns {
+            ranges: slices::first_places(&self.ranges, self.n),
+            drops: slices::first_places(&self.drops, self.n),
+            sigmas: slices::first_places(&self.sigmas, self.n),
         }
-        if i >= given.len() {
-            return a;
+    }
+}
+
+impl Wanted {
+    #[tactic(auto, using(crate::proofs::Arrays::laid_first))]
+    pub fn new(requested: &[TruingPredictionRequestV1]) -> Wanted
+        ensures { result ≡ wanted_from requested.now }
+    {
+        let mut entries = [NO_REQUEST; 64];
+        let n = requested.len().min(64);
+        entries[..n].copy_from_slice(&requested[..n]);
+        Wanted {
+            entries,
+            n: requested.len(),
         }
-        a[i] = sigma_or_0(future[i], given[i]);
-        i += 1usize;
     }
-    a
-}
 
-// Up to the end of the shortest of the three.
-pub fn shots_of<'a>(ranges: &'a [f64], drops: &'a [f64], sigmas: &'a [f64]) -> Shots
-    ensures { result ≡ shots_from ranges.now drops.now sigmas.now }
-{
-    let n = slices::shortest(ranges.len(), drops.len(), sigmas.len());
-    Shots {
-        ranges: filled(ranges),
-        drops: filled(drops),
-        sigmas: filled(sigmas),
-        n,
-    }
-}
-
-// Up to the end of the shortest of the three.
-pub fn wanted_of<'a>(distances: &'a [f64], future: &'a [f64], given: &'a [bool]) -> Wanted
-    ensures { result ≡ wanted_from distances.now future.now given.now }
-{
-    let n = slices::shortest(distances.len(), future.len(), given.len());
-    Wanted {
-        ranges: filled(distances),
-        sigmas: sigmas_or_0(future, given),
-        n,
+    // The requested distances.
+    pub fn as_slice(&self) -> &[TruingPredictionRequestV1]
+        ensures { result.now ≡ requested_in self.now }
+    {
+        slices::first_places(&self.entries, self.n)
     }
 }
 
 // Whether a distance is requested.
+#[tactic(auto, using(crate::proofs::Arrays::wanted_some))]
 pub fn has_wanted(w: Wanted) -> bool
     ensures { HasWanted w result }
 {
-    if w.n == 0 {
-        return false;
-    }
-    true
+    w.n != 0
 }
 
 // ---- a change of the requested distances
 
-// A requested distance put in at a place, taken out of it, or exchanged there; places are counted from 1. A sigma of 0 stands for none.
-#[derive(Clone, Copy)]
+// A requested distance put in at a place, taken out of it, or exchanged there; places are counted from 1.
+#[derive(Clone, Copy, PartialEq)]
 pub enum Change {
-    PutIn(usize, f64, f64),
+    PutIn(usize, TruingPredictionRequestV1),
     TakeOut(usize),
-    Exchange(usize, f64, f64),
+    Exchange(usize, TruingPredictionRequestV1),
 }
 
-// The place of the list of n to which a place counted from 1 belongs.
-fn index(place: usize) -> usize
-    ensures { result ≡ place - 1 }
-{
-    if place == 0 {
-        return 0;
+impl Change {
+    // The place, counted from 1.
+    pub fn place(self) -> usize
+        ensures { result ≡ place_of (edit_of self) }
+    {
+        match self {
+            Change::PutIn(place, _) | Change::TakeOut(place) | Change::Exchange(place, _) => place,
+        }
     }
-    place - 1
-}
 
-// Whether the place is one of a list of n. Putting in also takes the place after the last.
-pub fn is_placed(change: Change, n: usize) -> bool
-    ensures { result ≡ placed (edit_of change) n }
-{
-    match change {
-        Change::PutIn(i, _range, _sigma) => (1 <= i) & (index(i) <= n),
-        Change::TakeOut(i) => (1 <= i) & (i <= n),
-        Change::Exchange(i, _range, _sigma) => (1 <= i) & (i <= n),
+    // The new distance, if the change brings one.
+    pub fn entry(self) -> Option<TruingPredictionRequestV1>
+        ensures { result ≡ entry_in (edit_of self) }
+    {
+        match self {
+            Change::PutIn(_, entry) | Change::Exchange(_, entry) => Some(entry),
+            Change::TakeOut(_) => None,
+        }
     }
-}
 
-// Whether the edited list has a place for each of its entries.
-pub fn has_room(change: Change, n: usize) -> bool
-    ensures { result ≡ roomy (edit_of change) n }
-{
-    match change {
-        Change::PutIn(_i, _range, _sigma) => n < 64,
-        Change::TakeOut(_i) => true,
-        Change::Exchange(_i, _range, _sigma) => true,
+    // Whether the place is one of a list of n. Putting in also takes the place after the last.
+    #[tactic(auto, using(crate::proofs::Changes::before_end))]
+    pub fn is_placed(self, n: usize) -> bool
+        ensures { result ≡ placed (edit_of self) n }
+    {
+        match self {
+            Change::PutIn(i, _) => (1 <= i) & (i.saturating_sub(1) <= n),
+            Change::TakeOut(i) | Change::Exchange(i, _) => (1 <= i) & (i <= n),
+        }
     }
-}
 
-// The size of the list of n afterwards.
-fn size_after(change: Change, n: usize) -> usize
-    ensures { n ≤ 64 → result ≡ size_after (edit_of change) n }
-{
-    if n > 64 {
-        return n;
+    // Whether the edited list has a place for each of its entries.
+    pub fn has_room(self, n: usize) -> bool
+        ensures { result ≡ roomy (edit_of self) n }
+    {
+        match self {
+            Change::PutIn(_, _) => n < 64,
+            Change::TakeOut(_) | Change::Exchange(_, _) => true,
+        }
     }
-    match change {
-        Change::PutIn(_i, _range, _sigma) => n + 1,
-        Change::TakeOut(_i) => index(n),
-        Change::Exchange(_i, _range, _sigma) => n,
-    }
-}
 
-// The new distance; 0 where there is none.
-fn range_of(change: Change) -> f64
-    ensures { result ≡ range_of change }
-{
-    match change {
-        Change::PutIn(_i, range, _sigma) => range,
-        Change::TakeOut(_i) => 0.0,
-        Change::Exchange(_i, range, _sigma) => range,
+    // The size of the list of n afterwards.
+    fn size_after(self, n: usize) -> usize
+        ensures { n ≤ 64 → result ≡ size_after (edit_of self) n }
+    {
+        match self {
+            Change::PutIn(_, _) => n.saturating_add(1),
+            Change::TakeOut(_) => n.saturating_sub(1),
+            Change::Exchange(_, _) => n,
+        }
     }
-}
 
-// Its sigma; 0 where there is none.
-fn sigma_of(change: Change) -> f64
-    ensures { result ≡ sigma_in change }
-{
-    match change {
-        Change::PutIn(_i, _range, sigma) => sigma,
-        Change::TakeOut(_i) => 0.0,
-        Change::Exchange(_i, _range, sigma) => sigma,
-    }
-}
-
-// The first n of an array with x at the place of the change, or without the one there.
-fn changed_places(old: [f64; 64], n: usize, change: Change, x: f64) -> [f64; 64]
-    ensures { n ≤ 64 → T (placed (edit_of change) n) → T (roomy (edit_of change) n) → take (size_after (edit_of change) n) result ≡ edited_numbers (edit_of change) x (take n old) }
-{
-    match change {
-        Change::PutIn(i, _range, _sigma) => array_edits::inserted(old, n, index(i), x),
-        Change::TakeOut(i) => array_edits::removed(old, n, index(i)),
-        Change::Exchange(i, _range, _sigma) => array_edits::exchanged(old, index(i), x),
+    // The first n of an array with x at the place of the change, or without the one there.
+    #[tactic(auto, using(crate::proofs::Changes::put_places, crate::proofs::Changes::took_places, crate::proofs::Changes::set_places))]
+    fn applied<A: Copy>(self, old: [A; 64], n: usize, x: A) -> [A; 64]
+        ensures { n ≤ 64 → T (placed (edit_of self) n) → T (roomy (edit_of self) n) → take (size_after (edit_of self) n) result ≡ edited_numbers (edit_of self) x (take n old) }
+    {
+        match self {
+            Change::PutIn(i, _) => array_edits::inserted(old, n, i.saturating_sub(1), x),
+            Change::TakeOut(i) => array_edits::removed(old, n, i.saturating_sub(1)),
+            Change::Exchange(i, _) => array_edits::exchanged(old, i.saturating_sub(1), x),
+        }
     }
 }
 
 // The list with the change made, where it fits.
+#[tactic(auto, using(crate::proofs::Changes::edited_as))]
 pub fn changed_wanted(w: Wanted, change: Change) -> Wanted
     ensures { w.n ≤ 64 → T (placed (edit_of change) w.n) → T (roomy (edit_of change) w.n) → (requested_in result ≡ edited (edit_of change) (requested_in w)) × (result.n ≡ size_after (edit_of change) w.n) }
 {
-    let n = w.n;
-    let old_ranges = w.ranges;
-    let old_sigmas = w.sigmas;
-    let ranges = changed_places(old_ranges, n, change, range_of(change));
-    let sigmas = changed_places(old_sigmas, n, change, sigma_of(change));
-    let size = size_after(change, n);
+    let entry = change.entry().unwrap_or(NO_REQUEST);
     Wanted {
-        ranges,
-        sigmas,
-        n: size,
+        entries: change.applied(w.entries, w.n, entry),
+        n: change.size_after(w.n),
     }
 }
 
 // The rows of n distances with the same change made, the new distance's row in its place.
-pub fn changed_rows(rows: StencilRows, n: usize, change: Change, row: Row) -> StencilRows
+pub fn changed_rows(rows: StencilRows<64>, n: usize, change: Change, row: Row) -> StencilRows<64>
     ensures { n ≤ 64 → T (placed (edit_of change) n) → T (roomy (edit_of change) n) → rows_at (size_after (edit_of change) n) result ≡ edited_rows (edit_of change) (rows_from row) (rows_at n rows) }
 {
-    let old_predicted = rows.predicted;
-    let old_mv = rows.by_mv;
-    let old_bc = rows.by_bc;
-    let predicted = changed_places(old_predicted, n, change, row.predicted_drop);
-    let by_mv = changed_places(old_mv, n, change, row.d_drop_d_mv);
-    let by_bc = changed_places(old_bc, n, change, row.d_drop_d_bc);
     StencilRows {
-        predicted,
-        by_mv,
-        by_bc,
+        predicted: change.applied(rows.predicted, n, row.predicted_drop),
+        by_mv: change.applied(rows.by_mv, n, row.d_drop_d_mv),
+        by_bc: change.applied(rows.by_bc, n, row.d_drop_d_bc),
         gap: 0,
     }
 }

@@ -19,21 +19,16 @@ const LEAST_DETERMINANT: f64 = 1.0e-24;
 
 const LEAST_DAMPING: f64 = 1.0e-12;
 
-// A damped step: none where the determinant is unfit.
+// A damping trial: its candidate, the trials left after it, and its damping.
 #[derive(Clone, Copy)]
-pub enum Step {
-    Unfit,
-    To(Point),
-}
-
-// The next candidate with the trials left after it and its damping, or no trial is left.
-#[derive(Clone, Copy)]
-pub enum NextTrial {
-    Candidate(Point, usize, f64),
-    Exhausted,
+pub struct Trial {
+    pub point: Point,
+    pub left: usize,
+    pub damping: f64,
 }
 
 // A diagonal entry with its damping.
+#[tactic(auto, unfolding(definition::specs::Fit::damped_of))]
 fn damped(damping: f64, a: f64) -> f64
     ensures { result ≡ fit.damped_of damping a }
 {
@@ -41,6 +36,7 @@ fn damped(damping: f64, a: f64) -> f64
 }
 
 // Not finite, or too small.
+#[tactic(auto, unfolding(definition::specs::Fit::unfit_of))]
 fn is_unfit(determinant: f64) -> bool
     ensures { result ≡ fit.unfit_of determinant }
 {
@@ -48,6 +44,7 @@ fn is_unfit(determinant: f64) -> bool
 }
 
 // The step that solves the damped equations, as a point of the fit.
+#[tactic(auto, unfolding(definition::specs::Fit::stepped_of))]
 fn stepped(p: Point, d: Symmetric2, determinant: f64, gradient_mv: f64, gradient_bc: f64) -> Point
     ensures { result ≡ fit.stepped_of p d determinant gradient_mv gradient_bc }
 {
@@ -59,8 +56,9 @@ fn stepped(p: Point, d: Symmetric2, determinant: f64, gradient_mv: f64, gradient
     )
 }
 
-// The step with the posterior information damped.
-fn damped_step(p: Point, e: Evaluation, damping: f64) -> Step
+// The step with the posterior information damped: none where the determinant is unfit.
+#[tactic(auto, unfolding(definition::specs::Fit::step_of))]
+fn damped_step(p: Point, e: Evaluation, damping: f64) -> Option<Point>
     ensures { says result ≡ fit.step_of p e damping }
 {
     let information = e.posterior_information;
@@ -73,13 +71,13 @@ fn damped_step(p: Point, e: Evaluation, damping: f64) -> Step
     };
     let determinant = d.determinant();
     if is_unfit(determinant) {
-        return Step::Unfit;
+        return None;
     }
-    let q = stepped(p, d, determinant, e.gradient_mv, e.gradient_bc);
-    Step::To(q)
+    Some(stepped(p, d, determinant, e.gradient_mv, e.gradient_bc))
 }
 
 // The damping after an acceptance.
+#[tactic(auto, unfolding(definition::specs::Fit::lowered_of))]
 pub fn lowered(damping: f64) -> f64
     ensures { result ≡ fit.lowered_of damping }
 {
@@ -101,6 +99,7 @@ fn raised_far(damping: f64) -> f64
 }
 
 // The larger absolute entry of the gradient. A not-a-number loses to a number.
+#[tactic(auto, unfolding(definition::specs::Fit::gradient_norm_of))]
 pub fn gradient_norm(e: Evaluation) -> f64
     ensures { result ≡ fit.gradient_norm_of e }
 {
@@ -110,25 +109,27 @@ pub fn gradient_norm(e: Evaluation) -> f64
 }
 
 // Whether the gradient is flat at this evaluation.
+#[tactic(auto, unfolding(definition::specs::Fit::flat_of))]
 pub fn is_flat(e: Evaluation) -> bool
     ensures { result ≡ fit.flat_of e }
 {
     gradient_norm(e) <= MAP_SCALED_GRADIENT_TOLERANCE
 }
 
-// The next candidate among so many trials. Where the determinant is unfit nothing is asked, and it counts as a trial.
-pub fn next_trial(p: Point, e: Evaluation, left: usize, damping: f64) -> NextTrial
-    ensures { result ≡ next_trial_of p e left damping }
+// The next candidate among so many trials, if one is left. Where the determinant is unfit nothing is asked, and it counts as a trial.
+#[tactic(auto, unfolding(crate::specs::Trials::next_trial_of))]
+pub fn next_trial(p: Point, e: Evaluation, trials: usize, mut damping: f64) -> Option<Trial>
+    ensures { result ≡ next_trial_of p e trials damping }
 {
-    let mut left_now = left;
-    let mut damping_now = damping;
-    while left_now > 0 {
-        left_now -= 1;
-        let s = damped_step(p, e, damping_now);
-        if let Step::To(q) = s {
-            return NextTrial::Candidate(q, left_now, damping_now);
+    for left in (0..trials).rev() {
+        if let Some(point) = damped_step(p, e, damping) {
+            return Some(Trial {
+                point,
+                left,
+                damping,
+            });
         }
-        damping_now = raised_far(damping_now);
+        damping = raised_far(damping);
     }
-    NextTrial::Exhausted
+    None
 }

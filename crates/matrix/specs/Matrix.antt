@@ -1,12 +1,12 @@
 -- S12's `Symmetric2`: a symmetric matrix of two rows, by its entries a00, a01, a11.
-use Rattle.std.specs.Prelude.{Bool, false, cond, not, ◌&&◌, ◌||◌, Float}
+use Rattle.std.specs.Prelude.{Bool, false, cond, not, ◌&&◌, ◌||◌, Float, Result, Ok, Err}
 use Rattle.std.specs.Float.{inf, binary64}
 use Rattle.std.specs.Float.Ieee.{add, sub, mul, div, neg, le, of_bits}
 use Rattle.root.specs.Root.{root_of}
 use Rattle.numeric.specs.Numeric.{zero64, half64, one64, two64, finite, abs_of, clamp_of, hypot_of}
 use Rattle.matrix.specs.declared.Symmetric2.{Symmetric2}
-use Rattle.matrix.specs.declared.Inverse.{Inverse}
-use Rattle.matrix.specs.declared.Inverse.TheVariants.{Found, NonFiniteInformation, RankDeficientInformation}
+use Rattle.matrix.specs.declared.InverseError.{InverseError}
+use Rattle.matrix.specs.declared.InverseError.TheVariants.{NonFiniteInformation, RankDeficientInformation}
 
 -- a00 · a11 − a01 · a01
 unfoldable pub determinant_of : Symmetric2 → Float
@@ -33,10 +33,10 @@ pub data Inverted : Type 0 where
   non_finite rank_deficient : Inverted
 
 -- what each case of the answer says
-abbrev pub says : Inverse → Inverted
-says (Found m condition) = inverse m condition
-says NonFiniteInformation = non_finite
-says RankDeficientInformation = rank_deficient
+abbrev pub says : Result (Symmetric2 × Float) InverseError → Inverted
+says (Ok (m, condition)) = inverse m condition
+says (Err NonFiniteInformation) = non_finite
+says (Err RankDeficientInformation) = rank_deficient
 
 -- the inverse by entries, where the determinant is d: (a11/d, (−a01)/d, a00/d)
 unfoldable pub inverse_entries : Symmetric2 → Float → Symmetric2

@@ -4,16 +4,16 @@
 ghost use Rattle.std.specs.Prelude.{◌≡◌};
 ghost use Rattle.matrix.specs.Matrix.{determinant_of, sum_of, entries_finite, largest_of, says, inverse_of, column_condition_of};
 
-#[derive(Clone, Copy)]
+#[derive(Clone, Copy, PartialEq)]
 pub struct Symmetric2 {
     pub a00: f64,
     pub a01: f64,
     pub a11: f64,
 }
 
-#[derive(Clone, Copy)]
-pub enum Inverse {
-    Found { inverse: Symmetric2, condition: f64 },
+// Why a matrix has no inverse.
+#[derive(Clone, Copy, PartialEq, Eq)]
+pub enum InverseError {
     NonFiniteInformation,
     RankDeficientInformation,
 }
@@ -21,12 +21,14 @@ pub enum Inverse {
 const INFORMATION_RELATIVE_EIGEN_TOLERANCE: f64 = 1.0e-12;
 
 impl Symmetric2 {
+    #[tactic(auto, unfolding(crate::specs::Matrix::determinant_of))]
     pub fn determinant(self) -> f64
         ensures { result ≡ determinant_of self }
     {
         self.a00 * self.a11 - self.a01 * self.a01
     }
 
+    #[tactic(auto, unfolding(crate::specs::Matrix::sum_of))]
     pub fn add(self, rhs: Symmetric2) -> Symmetric2
         ensures { result ≡ sum_of self rhs }
     {
@@ -45,12 +47,14 @@ impl Symmetric2 {
     }
 
     // Whether each entry is finite.
+    #[tactic(auto, unfolding(crate::specs::Matrix::entries_finite))]
     fn is_finite(self) -> bool
         ensures { result ≡ entries_finite self }
     {
         numeric::is_finite(self.a00) & numeric::is_finite(self.a01) & numeric::is_finite(self.a11)
     }
 
+    #[tactic(auto, unfolding(crate::specs::Matrix::largest_of))]
     fn largest_eigenvalue(self) -> f64
         ensures { result ≡ largest_of self }
     {
@@ -59,20 +63,22 @@ impl Symmetric2 {
         0.5 * (trace + discriminant)
     }
 
-    pub fn inverse_with_condition(self) -> Inverse
+    // The inverse, and its condition number.
+    #[tactic(auto, unfolding(crate::specs::Matrix::inverse_of, crate::specs::Matrix::inverse_entries))]
+    pub fn inverse_with_condition(self) -> Result<(Symmetric2, f64), InverseError>
         ensures { says result ≡ inverse_of self }
     {
         if !self.is_finite() {
-            return Inverse::NonFiniteInformation;
+            return Err(InverseError::NonFiniteInformation);
         }
         let largest = self.largest_eigenvalue();
         let determinant = self.determinant();
         let unbounded = !numeric::is_finite(largest) | !numeric::is_finite(determinant);
         if unbounded {
-            return Inverse::NonFiniteInformation;
+            return Err(InverseError::NonFiniteInformation);
         }
         if (largest <= 0.0) | (determinant <= 0.0) {
-            return Inverse::RankDeficientInformation;
+            return Err(InverseError::RankDeficientInformation);
         }
         // The product of the two eigenvalues is the determinant.
         let smallest = determinant / largest;
@@ -80,7 +86,7 @@ impl Symmetric2 {
             | (smallest <= 0.0)
             | (smallest / largest <= INFORMATION_RELATIVE_EIGEN_TOLERANCE)
         {
-            return Inverse::RankDeficientInformation;
+            return Err(InverseError::RankDeficientInformation);
         }
         let inverse = Symmetric2 {
             a00: self.a11 / determinant,
@@ -88,15 +94,13 @@ impl Symmetric2 {
             a11: self.a00 / determinant,
         };
         if !inverse.is_finite() {
-            return Inverse::NonFiniteInformation;
+            return Err(InverseError::NonFiniteInformation);
         }
-        Inverse::Found {
-            inverse,
-            condition: largest / smallest,
-        }
+        Ok((inverse, largest / smallest))
     }
 }
 
+#[tactic(auto, unfolding(crate::specs::Matrix::column_condition_of))]
 pub fn column_condition(information: Symmetric2) -> f64
     ensures { result ≡ column_condition_of information }
 {

@@ -1,9 +1,9 @@
 -- Laws of digits and numbers, and the theorems that a double and a count read back as what was written. Assumes nothing.
+use Rattle.std.specs.Prelude.{Option, None, Some}
 use Prim.Native.Nat.{ℕ, zero, suc, ◌+◌, ◌-◌, ◌*◌, ◌/◌, ◌%◌, ◌^◌, ◌≤◌, ◌<◌}
 use mathlib.Core.Path.{◌≡◌, refl, sym, ap, ◌∙◌}
 use mathlib.Core.Bool.{Bool, true, false, not, ◌&&◌, cond, true≢false}
 use mathlib.Core.List.{List, [], ◌∷◌, ◌++◌, append_assoc, append-nil}
-use mathlib.Core.Option.{Option, none, some}
 use native.Mathlib.Nat.{mul-suc, mul-one, mul_comm, mul_assoc, mul-le-mul_right, pow-le-pow_right, pow-succ', le-mul_of_pos_right, div-lt_iff_lt-mul}
 use native.Mathlib.Nat.{le-div_iff_mul-le, div-add-mod, mod-lt, pow-zero, pow-suc}
 use native.Mathlib.Omega.{arith}
@@ -26,12 +26,12 @@ both_r false b e = absurd (true≢false (sym e))
 
 -- ---- reading on
 
-cond_none : (v : Bool) (o : Option ℕ) → within64 o ≡ none → within64 (cond v o none) ≡ none
+cond_none : (v : Bool) (o : Option ℕ) → within64 o ≡ None → within64 (cond v o None) ≡ None
 cond_none true o e = e
 cond_none false o e = refl
 
 -- what 64 bits do not hold, they do not hold with more digits
-pub over_stays : (b m : ℕ) (s : List ℕ) → 0 < b → 2 ^ 64 ≤ m → within64 (number_from b m s) ≡ none
+pub over_stays : (b m : ℕ) (s : List ℕ) → 0 < b → 2 ^ 64 ≤ m → within64 (number_from b m s) ≡ None
 over_stays b m [] p h = rw (le-ltb m (2 ^ 64) h)
 over_stays b m (c ∷ s) p h =
     cond_none (ltb (digit_of c) b) (number_from b (b * m + digit_of c) s)
@@ -47,35 +47,35 @@ longer_over b m d p h = omega (arith, (div-lt_iff_lt-mul {k = b} {x = 1844674407
 pub longer_fits : (b m d : ℕ) → 0 < b → d < 2 ^ 64 → m ≤ (18446744073709551615 - d) / b → b * m + d < 2 ^ 64
 longer_fits b m d p q h = omega (arith, (le-div_iff_mul-le {k = b} {x = m} {y = 18446744073709551615 - d} p).0 h, mul_comm m b)
 
-next_at : (x n : ℕ) (v : Bool) → some n ≡ cond v (some x) none → n ≡ x
+next_at : (x n : ℕ) (v : Bool) → Some n ≡ cond v (Some x) None → n ≡ x
 next_at x n true e = cc
 next_at x n false e = let z : ◌≡◌ {A = ℕ} 0 1 = cc in absurd (omega arith)
 
-pub next_is : (x n : ℕ) → some n ≡ within64 (some x) → n ≡ x
+pub next_is : (x n : ℕ) → Some n ≡ within64 (Some x) → n ≡ x
 next_is x n e = next_at x n (ltb x (2 ^ 64)) e
 
-fits_at : (x n : ℕ) (v : Bool) → ltb x (2 ^ 64) ≡ v → some n ≡ cond v (some x) none → n < 2 ^ 64
+fits_at : (x n : ℕ) (v : Bool) → ltb x (2 ^ 64) ≡ v → Some n ≡ cond v (Some x) None → n < 2 ^ 64
 fits_at x n true f e = let k : n ≡ x = cc in omega (arith, ltb-true x (2 ^ 64) f)
 fits_at x n false f e = let z : ◌≡◌ {A = ℕ} 0 1 = cc in absurd (omega arith)
 
-pub next_fits : (x n : ℕ) → some n ≡ within64 (some x) → n < 2 ^ 64
+pub next_fits : (x n : ℕ) → Some n ≡ within64 (Some x) → n < 2 ^ 64
 next_fits x n e = fits_at x n (ltb x (2 ^ 64)) refl e
 
-over_at : (x : ℕ) (v : Bool) → ltb x (2 ^ 64) ≡ v → none ≡ cond v (some x) none → 2 ^ 64 ≤ x
+over_at : (x : ℕ) (v : Bool) → ltb x (2 ^ 64) ≡ v → None ≡ cond v (Some x) None → 2 ^ 64 ≤ x
 over_at x true f e = let z : ◌≡◌ {A = ℕ} 0 1 = cc in absurd (omega arith)
 over_at x false f e = ltb-false x (2 ^ 64) f
 
-pub over_is : (x : ℕ) → none ≡ within64 (some x) → 2 ^ 64 ≤ x
+pub over_is : (x : ℕ) → None ≡ within64 (Some x) → 2 ^ 64 ≤ x
 over_is x e = over_at x (ltb x (2 ^ 64)) refl e
 
 module _ (b m : ℕ) (s : List ℕ) (i : ℕ) where
   pub read_on_lem : i < length s → digit_of (get_or s i 0) < b → number_from b m (drop i s) ≡ number_from b (b * m + digit_of (get_or s i 0)) (drop (suc i) s)
   read_on_lem h d = rw (drop-cons s i 0, lt-ltb (digit_of (get_or s i 0)) b d)
 
-  pub read_off : i < length s → b ≤ digit_of (get_or s i 0) → number_from b m (drop i s) ≡ none
+  pub read_off : i < length s → b ≤ digit_of (get_or s i 0) → number_from b m (drop i s) ≡ None
   read_off h d = rw (drop-cons s i 0, le-ltb (digit_of (get_or s i 0)) b d)
 
-  pub read_end : length s ≤ i → number_from b m (drop i s) ≡ some m
+  pub read_end : length s ≤ i → number_from b m (drop i s) ≡ Some m
   read_end h = rw (drop_of_length-le s {i = i} h)
 
 -- ---- writing
@@ -127,10 +127,10 @@ unfolding glyph_of
 digit_glyph d h = digit_either d (ltb d 10) h refl
 
 abbrev onward : ℕ → List ℕ → Option ℕ → Option ℕ
-onward b t none = none
-onward b t (some n) = number_from b n t
+onward b t None = None
+onward b t (Some n) = number_from b n t
 
-onward_cond : (b : ℕ) (t : List ℕ) (v : Bool) (o p : Option ℕ) → o ≡ onward b t p → cond v o none ≡ onward b t (cond v p none)
+onward_cond : (b : ℕ) (t : List ℕ) (v : Bool) (o p : Option ℕ) → o ≡ onward b t p → cond v o None ≡ onward b t (cond v p None)
 onward_cond b t true o p e = e
 onward_cond b t false o p e = refl
 
@@ -140,14 +140,14 @@ number_append b m (c ∷ s) t =
     onward_cond b t (ltb (digit_of c) b) (number_from b (b * m + digit_of c) (s ++ t)) (number_from b (b * m + digit_of c) s)
     (number_append b (b * m + digit_of c) s t)
 
-pub number_digits : (b k n : ℕ) → 0 < b → b ≤ 16 → n < b ^ k → number_from b 0 (digits_of b k n) ≡ some n
-number_digits b zero n p q h = let z : 0 ≡ n = omega (arith, rw pow-zero at h) in ap some z
+pub number_digits : (b k n : ℕ) → 0 < b → b ≤ 16 → n < b ^ k → number_from b 0 (digits_of b k n) ≡ Some n
+number_digits b zero n p q h = let z : 0 ≡ n = omega (arith, rw pow-zero at h) in ap Some z
 number_digits b (suc k) n p q h =
     let l = mod-lt n p in
     let g : digit_of (glyph_of (n % b)) ≡ n % b = digit_glyph (n % b) (omega arith) in
     number_append b 0 (digits_of b k (n / b)) (glyph_of (n % b) ∷ [])
     ∙ ap (onward b (glyph_of (n % b) ∷ [])) (number_digits b k (n / b) p q ((div-lt_iff_lt-mul {k = b} {x = n} {y = b ^ k} p).1 (rw pow-suc at h)))
-    ∙ rw (g, lt-ltb (n % b) b l) (ap some (div-add-mod n b))
+    ∙ rw (g, lt-ltb (n % b) b l) (ap Some (div-add-mod n b))
 
 pub places_most : (k n : ℕ) → places_of k n ≤ suc k
 places_most zero n = omega arith
@@ -173,7 +173,7 @@ pub double_back : DoubleBack
 unfolding double_of double_text
 double_back x h =
     rw (digits_length 16 16 (to_bits binary64 x), number_digits 16 16 (to_bits binary64 x) (omega arith) (omega arith) (to_bits-lt binary64 x h))
-    (ap some (of_bits-to_bits binary64 x h))
+    (ap Some (of_bits-to_bits binary64 x h))
 
 pub pattern_back : PatternBack
 pattern_back b = double_back (of_bits binary64 b) (of_bits-fits binary64 b)
@@ -232,7 +232,7 @@ count_back n h =
 
 -- ---- how large a number is
 
-below_at : (b m d l : ℕ) (v : Bool) (n : ℕ) (o : Option ℕ) → ltb d b ≡ v → (o ≡ some n → n < suc (b * m + d) * b ^ l) → cond v o none ≡ some n
+below_at : (b m d l : ℕ) (v : Bool) (n : ℕ) (o : Option ℕ) → ltb d b ≡ v → (o ≡ Some n → n < suc (b * m + d) * b ^ l) → cond v o None ≡ Some n
     → n < suc m * b ^ suc l
 below_at b m d l true n o e ih h =
     let q : suc (b * m + d) * b ^ l ≤ (b * suc m) * b ^ l = mul-le-mul_right (b ^ l) (omega (arith, ltb-true d b e, mul-suc b m)) in
@@ -241,14 +241,14 @@ below_at b m d l true n o e ih h =
     omega (arith, ih h)
 below_at b m d l false n o e ih h = let z : ◌≡◌ {A = ℕ} 0 1 = cc in absurd (omega arith)
 
-pub number_below : (b m : ℕ) (s : List ℕ) (n : ℕ) → number_from b m s ≡ some n → n < suc m * b ^ length s
+pub number_below : (b m : ℕ) (s : List ℕ) (n : ℕ) → number_from b m s ≡ Some n → n < suc m * b ^ length s
 number_below b m [] n h = let e : m ≡ n = cc in rw (pow-zero, mul-one) (omega arith)
 number_below b m (c ∷ s) n h =
     below_at b m (digit_of c) (length s) (ltb (digit_of c) b) n (number_from b (b * m + digit_of c) s) refl (number_below b (b * m + digit_of c) s n) h
 
-within_same : (o : Option ℕ) → ((n : ℕ) → o ≡ some n → n < 2 ^ 64) → within64 o ≡ o
-within_same none h = refl
-within_same (some n) h = rw (lt-ltb n (2 ^ 64) (h n refl))
+within_same : (o : Option ℕ) → ((n : ℕ) → o ≡ Some n → n < 2 ^ 64) → within64 o ≡ o
+within_same None h = refl
+within_same (Some n) h = rw (lt-ltb n (2 ^ 64) (h n refl))
 
 -- 64 bits hold 16 hexadecimal digits
 pub within_16 : (s : List ℕ) → length s ≡ 16 → within64 (number_from 16 0 s) ≡ number_from 16 0 s
@@ -272,7 +272,7 @@ pub in_16 : (p : ℕ) (x : Float) → p ≡ to_bits binary64 x → digits_of 16 
 unfolding double_text
 in_16 p x e = append-nil (digits_of 16 16 p) ∙ ap (digits_of 16 16) e
 
-pub no_double : (s : List ℕ) → (length s ≡ 16 → ⊥) → double_of s ≡ none
+pub no_double : (s : List ℕ) → (length s ≡ 16 → ⊥) → double_of s ≡ None
 unfolding double_of
 no_double s h = rw (ne_eqb (length s) 16 h)
 
@@ -282,12 +282,12 @@ a_double s o l e = rw (eq-eqb (length s) 16 l) (ap of_pattern (e ∙ within_16 s
 
 -- ---- a count's first byte
 
-pub no_bytes : (s : List ℕ) → length s ≡ 0 → count_of s ≡ none
+pub no_bytes : (s : List ℕ) → length s ≡ 0 → count_of s ≡ None
 unfolding count_of
 no_bytes [] e = refl
 no_bytes (c ∷ s) e = absurd (omega arith)
 
-pub a_leading_zero : (s : List ℕ) → (ltb 1 (length s) && eqb (get_or s 0 0) 48) ≡ true → count_of s ≡ none
+pub a_leading_zero : (s : List ℕ) → (ltb 1 (length s) && eqb (get_or s 0 0) 48) ≡ true → count_of s ≡ None
 unfolding count_of
 a_leading_zero [] e = refl
 a_leading_zero (c ∷ []) e = absurd (true≢false (sym e))
@@ -304,21 +304,21 @@ no_leading_zero (c ∷ d ∷ s) h e =
 
 -- ---- a count of more than 20 digits
 
-least_at : (b m d l : ℕ) (v : Bool) (n : ℕ) (o : Option ℕ) → (o ≡ some n → (b * m + d) * b ^ l ≤ n) → cond v o none ≡ some n → m * b ^ suc l ≤ n
+least_at : (b m d l : ℕ) (v : Bool) (n : ℕ) (o : Option ℕ) → (o ≡ Some n → (b * m + d) * b ^ l ≤ n) → cond v o None ≡ Some n → m * b ^ suc l ≤ n
 least_at b m d l true n o ih h =
     let q : (b * m) * b ^ l ≤ (b * m + d) * b ^ l = mul-le-mul_right (b ^ l) (omega arith) in
     let r : (b * m) * b ^ l ≡ m * b ^ suc l = ap (λ (x : ℕ). x * b ^ l) (mul_comm b m) ∙ mul_assoc m b (b ^ l) ∙ ap (λ (x : ℕ). m * x) (sym (pow-succ' b l)) in
     omega (arith, ih h)
 least_at b m d l false n o ih h = let z : ◌≡◌ {A = ℕ} 0 1 = cc in absurd (omega arith)
 
-number_least : (b m : ℕ) (s : List ℕ) (n : ℕ) → number_from b m s ≡ some n → m * b ^ length s ≤ n
+number_least : (b m : ℕ) (s : List ℕ) (n : ℕ) → number_from b m s ≡ Some n → m * b ^ length s ≤ n
 number_least b m [] n h = let e : m ≡ n = cc in rw (pow-zero, mul-one) (omega arith)
 number_least b m (c ∷ s) n h =
     least_at b m (digit_of c) (length s) (ltb (digit_of c) b) n (number_from b (b * m + digit_of c) s) (number_least b (b * m + digit_of c) s n) h
 
-over_all : (o : Option ℕ) → ((n : ℕ) → o ≡ some n → 2 ^ 64 ≤ n) → within64 o ≡ none
-over_all none h = refl
-over_all (some n) h = rw (le-ltb n (2 ^ 64) (h n refl))
+over_all : (o : Option ℕ) → ((n : ℕ) → o ≡ Some n → 2 ^ 64 ≤ n) → within64 o ≡ None
+over_all None h = refl
+over_all (Some n) h = rw (le-ltb n (2 ^ 64) (h n refl))
 
 zero_at : (c : ℕ) (u v : Bool) → (leb 48 c && leb c 57) ≡ u → (leb 97 c && leb c 102) ≡ v → cond u (c - 48) (cond v (c - 87) 16) ≡ 0 → c ≡ 48
 zero_at c true v e f h = omega (arith, leb-true 48 c (both_l (leb 48 c) (leb c 57) e))
@@ -330,7 +330,7 @@ digit_zero : (c : ℕ) → digit_of c ≡ 0 → c ≡ 48
 unfolding digit_of
 digit_zero c h = zero_at c (leb 48 c && leb c 57) (leb 97 c && leb c 102) refl refl h
 
-many_digits : (m : ℕ) (s : List ℕ) → 0 < m → 20 ≤ length s → within64 (number_from 10 m s) ≡ none
+many_digits : (m : ℕ) (s : List ℕ) → 0 < m → 20 ≤ length s → within64 (number_from 10 m s) ≡ None
 many_digits m s p h =
     over_all (number_from 10 m s)
     (λ n e. omega (arith, number_least 10 m s n e, pow-le-pow_right {n = 10} (omega arith) h, mul-le-mul_right {m = 1} {n = m} (10 ^ length s) p))
@@ -340,7 +340,7 @@ positive zero h = absurd (h refl)
 positive (suc n) h = omega arith
 
 long_at : (c : ℕ) (s : List ℕ) (u v : Bool) → eqb c 48 ≡ u → 20 ≤ length s
-    → cond (not u) (within64 (cond v (number_from 10 (10 * 0 + digit_of c) s) none)) none ≡ none
+    → cond (not u) (within64 (cond v (number_from 10 (10 * 0 + digit_of c) s) None)) None ≡ None
 long_at c s true v e h = refl
 long_at c s false false e h = refl
 long_at c s false true e h =
@@ -348,7 +348,7 @@ long_at c s false true e h =
     many_digits (10 * 0 + digit_of c) s (omega arith) h
 
 -- no count has more than 20 bytes
-pub long_count : (s : List ℕ) → 20 < length s → count_of s ≡ none
+pub long_count : (s : List ℕ) → 20 < length s → count_of s ≡ None
 unfolding count_of
 long_count [] h = refl
 long_count (c ∷ []) h = absurd (omega arith)

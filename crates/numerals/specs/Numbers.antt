@@ -1,12 +1,7 @@
 -- Numbers as they stand in a line: a double is the 16 hexadecimal digits of its bits, a count is decimal. A text is the list of its bytes.
-use Rattle.std.specs.Prelude.{ℕ, zero, suc, ◌+◌, ◌-◌, ◌*◌, ◌/◌, ◌%◌, ◌^◌, ◌<◌, ◌≡◌, Bool, true, false, not, ◌&&◌, cond, List, [], ◌∷◌, ◌++◌, T, leb, ltb, eqb, length, replicate, Float}
-use Rattle.std.proofs.Math.Option.{Option, none, some}
+use Rattle.std.specs.Prelude.{ℕ, zero, suc, ◌+◌, ◌-◌, ◌*◌, ◌/◌, ◌%◌, ◌^◌, ◌<◌, ◌≡◌, Bool, true, false, not, ◌&&◌, cond, List, [], ◌∷◌, ◌++◌, T, leb, ltb, eqb, length, replicate, Float, Option, None, Some}
 use Rattle.std.specs.Float.{binary64}
 use Rattle.std.specs.Float.Ieee.{fits, of_bits, to_bits}
-use Rattle.numerals.specs.declared.ReadDouble.{ReadDouble}
-use Rattle.numerals.specs.declared.ReadDouble.TheVariants as readDouble
-use Rattle.numerals.specs.declared.ReadCount.{ReadCount}
-use Rattle.numerals.specs.declared.ReadCount.TheVariants as readCount
 
 -- ---- digits
 
@@ -20,8 +15,8 @@ glyph_of d = cond (ltb d 10) (48 + d) (87 + d)
 
 -- the number that follows m when these digits in base b are read on, none where a byte is no digit in base b
 abbrev pub number_from : ℕ → ℕ → List ℕ → Option ℕ
-number_from b m [] = some m
-number_from b m (c ∷ s) = cond (ltb (digit_of c) b) (number_from b (b * m + digit_of c) s) none
+number_from b m [] = Some m
+number_from b m (c ∷ s) = cond (ltb (digit_of c) b) (number_from b (b * m + digit_of c) s) None
 
 -- the last k digits of n in base b, the most significant first
 abbrev pub digits_of : ℕ → ℕ → ℕ → List ℕ
@@ -32,28 +27,23 @@ digits_of b (suc k) n = digits_of b k (n / b) ++ (glyph_of (n % b) ∷ [])
 
 -- the double whose bits are a number
 abbrev pub of_pattern : Option ℕ → Option Float
-of_pattern none = none
-of_pattern (some n) = some (of_bits binary64 n)
+of_pattern None = None
+of_pattern (Some n) = Some (of_bits binary64 n)
 
 -- the double that a text is: 16 digits, its bits. Any pattern of a not-a-number is the one nan.
 unfoldable pub double_of : List ℕ → Option Float
-double_of s = cond (eqb (length s) 16) (of_pattern (number_from 16 0 s)) none
+double_of s = cond (eqb (length s) 16) (of_pattern (number_from 16 0 s)) None
 
 -- the text of a double
 unfoldable pub double_text : Float → List ℕ
 double_text x = digits_of 16 16 (to_bits binary64 x)
 
--- what an answer of `read_double` says
-abbrev pub says_double : ReadDouble → Option Float
-says_double readDouble.Malformed = none
-says_double (readDouble.Double x) = some x
-
 -- ---- counts
 
 -- a number that 64 bits hold
 abbrev pub within64 : Option ℕ → Option ℕ
-within64 none = none
-within64 (some n) = cond (ltb n (2 ^ 64)) (some n) none
+within64 None = None
+within64 (Some n) = cond (ltb n (2 ^ 64)) (Some n) None
 
 -- at least one digit, and no 0 before another
 abbrev pub plain : List ℕ → Bool
@@ -63,7 +53,7 @@ plain (c ∷ d ∷ s) = not (eqb c 48)
 
 -- the count that a text is: decimal digits with no leading zero, of a number below 2^64
 unfoldable pub count_of : List ℕ → Option ℕ
-count_of s = cond (plain s) (within64 (number_from 10 0 s)) none
+count_of s = cond (plain s) (within64 (number_from 10 0 s)) None
 
 -- how many decimal digits n has, where they are at most k + 1
 abbrev pub places_of : ℕ → ℕ → ℕ
@@ -78,21 +68,16 @@ count_text n = digits_of 10 (places_of 19 n) n
 abbrev pub in20 : List ℕ → List ℕ
 in20 s = s ++ replicate (20 - length s) 0
 
--- what an answer of `read_count` says
-abbrev pub says_count : ReadCount → Option ℕ
-says_count readCount.Malformed = none
-says_count (readCount.Count n) = some n
-
 -- ---- what is written reads back
 
 -- a double. Theorem `double_back`.
 abbrev pub DoubleBack : Type 0
-DoubleBack = (x : Float) → T (fits binary64 x) → double_of (double_text x) ≡ some x
+DoubleBack = (x : Float) → T (fits binary64 x) → double_of (double_text x) ≡ Some x
 
 -- the double of any pattern. Theorem `pattern_back`.
 abbrev pub PatternBack : Type 0
-PatternBack = (b : ℕ) → double_of (double_text (of_bits binary64 b)) ≡ some (of_bits binary64 b)
+PatternBack = (b : ℕ) → double_of (double_text (of_bits binary64 b)) ≡ Some (of_bits binary64 b)
 
 -- a count. Theorem `count_back`.
 abbrev pub CountBack : Type 0
-CountBack = (n : ℕ) → n < 2 ^ 64 → count_of (count_text n) ≡ some n
+CountBack = (n : ℕ) → n < 2 ^ 64 → count_of (count_text n) ≡ Some n

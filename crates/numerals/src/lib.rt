@@ -1,30 +1,17 @@
 // Doubles and counts as they stand in a line, read from bytes and written as bytes; and a double's bits, whatever not-a-number it is.
 #![tactic(auto)]
 
-ghost use Rattle.std.specs.Prelude.{◌≡◌, List, ◌++◌, ◌+◌, ◌*◌, ◌≤◌, ◌<◌, length, drop};
-ghost use Rattle.std.proofs.Math.Option.{none, some};
+ghost use Rattle.std.specs.Prelude.{◌≡◌, List, ◌++◌, ◌+◌, ◌*◌, ◌≤◌, ◌<◌, length, drop, None, Some};
 ghost use Rattle.std.specs.Float.{binary64};
 ghost use Rattle.std.specs.Float.Ieee.{of_bits, to_bits};
-ghost use Rattle.numerals.specs.Numbers.{digit_of, glyph_of, number_from, digits_of, double_of, double_text, says_double, within64, count_of, places_of};
-ghost use Rattle.numerals.specs.Numbers.{count_text, in20, says_count};
+ghost use Rattle.numerals.specs.Numbers.{digit_of, glyph_of, number_from, digits_of, double_of, double_text, within64, count_of, places_of};
+ghost use Rattle.numerals.specs.Numbers.{count_text, in20};
 
 const SIGN: u64 = 0x8000_0000_0000_0000;
 
 const INFINITY: u64 = 0x7ff0_0000_0000_0000;
 
 const NAN: u64 = 0x7ff8_0000_0000_0000;
-
-#[derive(Clone, Copy)]
-pub enum ReadDouble {
-    Malformed,
-    Double(f64),
-}
-
-#[derive(Clone, Copy)]
-pub enum ReadCount {
-    Malformed,
-    Count(u64),
-}
 
 // A count's digits: the first `len` bytes.
 #[derive(Clone, Copy)]
@@ -77,38 +64,38 @@ fn glyph(d: u64) -> u8
 }
 
 // The number m with one digit more, where 64 bits hold it. Most digits need no division.
-fn longer(base: u64, m: u64, d: u64) -> ReadCount
+fn longer(base: u64, m: u64, d: u64) -> Option<u64>
     requires { (0 < base) × (base ≤ 16) × (d < 16) }
-    ensures { says_count result ≡ within64 (some (base * m + d)) }
+    ensures { result ≡ within64 (Some (base * m + d)) }
 {
     if m < 0x0fff_ffff_ffff_ffff {
-        return ReadCount::Count(base * m + d);
+        return Some(base * m + d);
     }
     if m > (u64::MAX - d) / base {
-        return ReadCount::Malformed;
+        return None;
     }
-    ReadCount::Count(base * m + d)
+    Some(base * m + d)
 }
 
 // The number with these digits, where 64 bits hold it.
-fn number(base: u64, s: &[u8]) -> ReadCount
+fn number(base: u64, s: &[u8]) -> Option<u64>
     requires { (0 < base) × (base ≤ 16) }
-    ensures { says_count result ≡ within64 (number_from base 0 s.now) }
+    ensures { result ≡ within64 (number_from base 0 s.now) }
 {
     let mut m: u64 = 0;
     let mut i = 0usize;
     while i < s.len() {
         let d = digit(s[i]);
         if d >= base {
-            return ReadCount::Malformed;
+            return None;
         }
-        let ReadCount::Count(next) = longer(base, m, d) else {
-            return ReadCount::Malformed;
+        let Some(next) = longer(base, m, d) else {
+            return None;
         };
         m = next;
         i += 1;
     }
-    ReadCount::Count(m)
+    Some(m)
 }
 
 // Puts the last k digits of n in base at the start of out.
@@ -140,16 +127,16 @@ fn places(n: u64) -> usize
 }
 
 // A double: the 16 lower-case hexadecimal digits of its bits.
-pub fn read_double(s: &[u8]) -> ReadDouble
-    ensures { says_double result ≡ double_of s.now }
+pub fn read_double(s: &[u8]) -> Option<f64>
+    ensures { result ≡ double_of s.now }
 {
     if s.len() != 16 {
-        return ReadDouble::Malformed;
+        return None;
     }
-    let ReadCount::Count(b) = number(16, s) else {
-        return ReadDouble::Malformed;
+    let Some(b) = number(16, s) else {
+        return None;
     };
-    ReadDouble::Double(double(b))
+    Some(double(b))
 }
 
 // The digits of the bits of x, those of one and the same NaN for every NaN.
@@ -162,14 +149,14 @@ pub fn write_double(x: f64) -> [u8; 16]
 }
 
 // A count: decimal digits with no sign and no leading zero, of a number that 64 bits hold.
-pub fn read_count(s: &[u8]) -> ReadCount
-    ensures { says_count result ≡ count_of s.now }
+pub fn read_count(s: &[u8]) -> Option<u64>
+    ensures { result ≡ count_of s.now }
 {
     if s.len() == 0 {
-        return ReadCount::Malformed;
+        return None;
     }
     if (s.len() > 1) & (s[0] == 48) {
-        return ReadCount::Malformed;
+        return None;
     }
     number(10, s)
 }

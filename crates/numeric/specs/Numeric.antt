@@ -1,7 +1,7 @@
 -- The leaves on doubles (S8's hypot, S10), by IEEE 754's cases: `nan` (not-a-number), `inf s` and the numbers `fin s m e`, negative where s is true.
 use Rattle.std.specs.Prelude.{Bool, true, false, cond, ◌&&◌, Float}
 use Rattle.std.specs.Float.{nan, inf, fin, binary64}
-use Rattle.std.specs.Float.Ieee.{add, mul, div, lt, eq, is_nan, of_bits}
+use Rattle.std.specs.Float.Ieee.{add, mul, div, lt, eq, le, is_nan, of_bits}
 use Rattle.root.specs.Root.{root_of}
 
 -- the literals that several definitions name
@@ -23,6 +23,10 @@ unfoldable pub finite : Float → Bool
 finite nan = false
 finite (inf s) = false
 finite (fin s m e) = true
+
+-- finite, and from the lower to the upper end, ends included
+unfoldable pub within_of : Float → Float → Float → Bool
+within_of lower upper x = finite x && (le lower x && le x upper)
 
 -- "absolute value": without the sign, so that −0 gives +0
 unfoldable pub abs_of : Float → Float

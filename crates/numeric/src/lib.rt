@@ -4,48 +4,52 @@
 
 ghost use Rattle.std.specs.Prelude.{◌≡◌, false};
 ghost use Rattle.std.specs.Float.{inf};
-ghost use Rattle.numeric.specs.Numeric.{finite, abs_of, max_of, clamp_of, scaled_of, hypot_of};
+ghost use Rattle.numeric.specs.Numeric.{finite, within_of, abs_of, max_of, clamp_of, scaled_of, hypot_of};
 ghost use Rattle.numeric.specs.Poll.{direction_of};
 ghost use Rattle.numeric.specs.Drop.{express_of};
 
-// A number less itself is 0; an infinity or a not-a-number less itself is a not-a-number.
+#[tactic(auto, using(crate::proofs::Laws::finite_is))]
 pub fn is_finite(x: f64) -> bool
     ensures { result ≡ finite x }
 {
-    x - x == 0.0
+    x.is_finite()
 }
 
+// Finite, and from the lower to the upper end, ends included.
+#[tactic(auto, unfolding(crate::specs::Numeric::within_of))]
+pub fn is_within(lower: f64, upper: f64, x: f64) -> bool
+    ensures { result ≡ within_of lower upper x }
+{
+    is_finite(x) & ((lower <= x) & (x <= upper))
+}
+
+#[tactic(auto, using(crate::proofs::Laws::infinity_is))]
 pub fn infinity() -> f64
     ensures { result ≡ inf false }
 {
-    1.0 / 0.0
+    f64::INFINITY
 }
 
-// The zeros compare equal, so that -0 takes the second way too.
+#[tactic(auto, using(crate::proofs::Laws::abs_is))]
 pub fn abs(x: f64) -> f64
     ensures { result ≡ abs_of x }
 {
-    if x < 0.0 {
-        return -x;
-    }
-    if x == 0.0 {
-        return 0.0;
-    }
-    x
+    x.abs()
 }
 
+// Kept: which of two that compare equal std's `max` gives is left open, as for 0 and -0. Here it is the first.
+#[tactic(auto, using(crate::proofs::Laws::max_by_tests))]
 pub fn max(x: f64, y: f64) -> f64
     ensures { result ≡ max_of x y }
 {
-    if x != x {
-        return y;
-    }
-    if x < y {
+    if x.is_nan() | (x < y) {
         return y;
     }
     x
 }
 
+// Kept: std's `clamp` requires that the lower end is at most the upper. Here the ends may be the wrong way round.
+#[tactic(auto, unfolding(crate::specs::Numeric::clamp_of))]
 pub fn clamp(x: f64, lower: f64, upper: f64) -> f64
     ensures { result ≡ clamp_of x lower upper }
 {
@@ -59,6 +63,7 @@ pub fn clamp(x: f64, lower: f64, upper: f64) -> f64
 }
 
 // The larger part times the root of 1 + q * q, where q is the smaller over the larger.
+#[tactic(auto, unfolding(crate::specs::Numeric::scaled_of))]
 fn scaled(big: f64, small: f64) -> f64
     ensures { result ≡ scaled_of big small }
 {
@@ -66,18 +71,19 @@ fn scaled(big: f64, small: f64) -> f64
     big * root::root(1.0 + q * q)
 }
 
+// Kept: what std's `hypot` gives is the C library's, of which no clause says anything.
+#[tactic(auto, using(crate::proofs::Laws::hypot_by_tests, crate::proofs::Laws::nan_is))]
 pub fn hypot(x: f64, y: f64) -> f64
     ensures { result ≡ hypot_of x y }
 {
+    if x.is_infinite() | y.is_infinite() {
+        return infinity();
+    }
+    if x.is_nan() | y.is_nan() {
+        return f64::NAN;
+    }
     let a = abs(x);
     let b = abs(y);
-    let infinite = infinity();
-    if (a == infinite) | (b == infinite) {
-        return infinite;
-    }
-    if (a != a) | (b != b) {
-        return 0.0 / 0.0;
-    }
     if (a == 0.0) & (b == 0.0) {
         return 0.0;
     }
@@ -88,12 +94,13 @@ pub fn hypot(x: f64, y: f64) -> f64
 }
 
 // A direction in the plane of scaled speed and coefficient.
-#[derive(Clone, Copy)]
+#[derive(Clone, Copy, PartialEq, Debug)]
 pub struct Direction {
     pub cos: f64,
     pub sin: f64,
 }
 
+#[tactic(auto, unfolding(crate::specs::Poll::direction_of))]
 pub fn poll_direction(a00: f64, a01: f64, a11: f64) -> Direction
     ensures { result ≡ direction_of a00 a01 a11 }
 {
@@ -113,24 +120,22 @@ pub fn poll_direction(a00: f64, a01: f64, a11: f64) -> Direction
 }
 
 // The unit in which a drop is given.
-#[derive(Clone, Copy)]
+#[derive(Clone, Copy, PartialEq, Eq, Debug)]
 pub enum DropUnit {
     Mil,
     Moa,
     In,
 }
 
-// 180 / π, in degrees to the radian.
-const DEGREES_PER_RADIAN: f64 = 57.29577951308232;
-
 impl DropUnit {
     // A drop of `drop_m` metres at `z_m` metres, in this unit.
+    #[tactic(auto, unfolding(crate::specs::Drop::express_of), using(crate::proofs::Laws::degrees_is))]
     pub fn express_drop_m(self, drop_m: f64, z_m: f64) -> f64
         ensures { result ≡ express_of self drop_m z_m }
     {
         match self {
             DropUnit::Mil => (drop_m / z_m) * 1000.0,
-            DropUnit::Moa => (drop_m / z_m) * DEGREES_PER_RADIAN * 60.0,
+            DropUnit::Moa => (drop_m / z_m).to_degrees() * 60.0,
             DropUnit::In => drop_m / 0.0254,
         }
     }

@@ -1,21 +1,14 @@
 -- What the poll's structs and answers stand for in the definition: a direction not yet looked at is an index into the eight, and what remains is the list from
 -- there on.
-use Rattle.std.specs.Prelude.{cond, ltb, Float, drop}
-use Rattle.std.specs.Float.Ieee.{neg}
+use Rattle.std.specs.Prelude.{ℕ, cond, ltb, Float, drop, Option, None, Some}
 use Rattle.numeric.specs.declared.Direction.{Direction}
 use Rattle.definition.specs.Mesh as mesh
 use Rattle.definition.specs.Meaning.{convergence_of}
 use Rattle.definition.specs.declared.Point.{Point}
 use Rattle.objective_mesh.specs.declared.Poll.{Poll}
 use Rattle.objective_mesh.specs.declared.Pass.{Pass}
-use Rattle.objective_mesh.specs.declared.Looked.{Looked}
-use Rattle.objective_mesh.specs.declared.Looked.TheVariants.{Moved, NoneMoved}
 use Rattle.objective_mesh.specs.declared.PollStep.{PollStep}
 use Rattle.objective_mesh.specs.declared.PollStep.TheVariants.{Evaluates, Ended}
-
--- the eighth direction, which `direction_at` gives past the end too
-abbrev pub last_direction : Direction → Point
-last_direction axis = mesh.direction axis.sin (neg axis.cos)
 
 abbrev pub poll_of : Poll → mesh.Poll
 poll_of r = record { point = r.point; convergence = convergence_of r.convergence; evaluations = r.evaluations }
@@ -34,9 +27,9 @@ pass_of s = record {
 }
 
 -- what each case of the answers says
-abbrev pub looks_as : Direction → Looked → mesh.Looked
-looks_as axis (Moved c next) = mesh.moved c (drop next (mesh.directions axis))
-looks_as axis NoneMoved = mesh.none_moved
+abbrev pub looks_as : Direction → Option (Point × ℕ) → mesh.Looked
+looks_as axis (Some (c, next)) = mesh.moved c (drop next (mesh.directions axis))
+looks_as axis None = mesh.none_moved
 
 abbrev pub says : PollStep → mesh.PollStep
 says (Evaluates c s) = mesh.evaluates c (pass_of s)

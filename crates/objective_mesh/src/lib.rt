@@ -1,9 +1,9 @@
 // `polish_and_verify_objective_mesh` between its questions: the poll's directions and candidates, and which comes next.
 #![tactic(auto)]
 
-ghost use Rattle.std.specs.Prelude.{◌≡◌, drop, get_or};
+ghost use Rattle.std.specs.Prelude.{◌≡◌, drop};
 ghost use Rattle.definition.specs.Mesh as mesh;
-ghost use Rattle.objective_mesh.specs.Meaning.{last_direction, pass_of, poll_of, looks_as, says, seen_within};
+ghost use Rattle.objective_mesh.specs.Meaning.{pass_of, poll_of, looks_as, says, seen_within};
 
 use coordinates::{BC_COORDINATE_SCALE, MV_COORDINATE_SCALE_FPS};
 use definition::{Convergence, Point};
@@ -19,14 +19,11 @@ const SMALLER_RADII: usize = 9;
 
 pub const MAP_OBJECTIVE_MAX_POLL_EVALUATIONS: usize = 1_024;
 
-// The four coordinate directions and the poll direction with its turns.
-const DIRECTIONS: usize = 8;
-
 // What the poll comes to.
 #[derive(Clone, Copy)]
 pub struct Poll {
     pub point: Point,
-    pub convergence: Convergence,
+    pub convergence: Option<Convergence>,
     pub evaluations: usize,
 }
 
@@ -45,13 +42,6 @@ pub struct Pass {
     pub evaluations: usize,
 }
 
-// The next direction that leads to another point than the centre: the candidate, and the index of the direction after it.
-#[derive(Clone, Copy)]
-pub enum Looked {
-    Moved(Point, usize),
-    NoneMoved,
-}
-
 // What comes next in the poll: a candidate to be evaluated, or its end.
 #[derive(Clone, Copy)]
 pub enum PollStep {
@@ -59,35 +49,25 @@ pub enum PollStep {
     Ended(Poll),
 }
 
-// The four coordinate directions, then the poll direction and its turns. Past the eighth it gives the eighth.
-fn direction_at(axis: Direction, j: usize) -> Point
-    ensures { result ≡ get_or (mesh.directions axis) j (last_direction axis) }
+// The four coordinate directions, then the poll direction and its turns.
+fn directions(axis: Direction) -> [Point; 8]
+    ensures { result ≡ mesh.directions axis }
 {
-    match j {
-        0 => Point { mv: 1.0, bc: 0.0 },
-        1 => Point { mv: -1.0, bc: 0.0 },
-        2 => Point { mv: 0.0, bc: 1.0 },
-        3 => Point { mv: 0.0, bc: -1.0 },
-        4 => Point {
-            mv: axis.cos,
-            bc: axis.sin,
-        },
-        5 => Point {
-            mv: -axis.cos,
-            bc: -axis.sin,
-        },
-        6 => Point {
-            mv: -axis.sin,
-            bc: axis.cos,
-        },
-        _ => Point {
-            mv: axis.sin,
-            bc: -axis.cos,
-        },
-    }
+    let Direction { cos, sin } = axis;
+    [
+        Point { mv: 1.0, bc: 0.0 },
+        Point { mv: -1.0, bc: 0.0 },
+        Point { mv: 0.0, bc: 1.0 },
+        Point { mv: 0.0, bc: -1.0 },
+        Point { mv: cos, bc: sin },
+        Point { mv: -cos, bc: -sin },
+        Point { mv: -sin, bc: cos },
+        Point { mv: sin, bc: -cos },
+    ]
 }
 
 // The point at a radius from the centre in a direction, within the bounds of the fit.
+#[tactic(auto, unfolding(definition::specs::Mesh::candidate_of))]
 fn candidate(radius: f64, centre: Point, d: Point) -> Point
     ensures { result ≡ mesh.candidate_of radius centre d }
 {
@@ -97,212 +77,172 @@ fn candidate(radius: f64, centre: Point, d: Point) -> Point
     )
 }
 
-// Whether two points are equal; a not-a-number equals nothing.
-fn is_unmoved(p: Point, q: Point) -> bool
-    ensures { result ≡ mesh.unmoved_of p q }
-{
-    (p.mv == q.mv) & (p.bc == q.bc)
-}
-
 // The radius after a pass without a material gain.
+#[tactic(auto, unfolding(definition::specs::Mesh::quartered_of))]
 fn quartered(radius: f64) -> f64
     ensures { result ≡ mesh.quartered_of radius }
 {
     numeric::max(radius * 0.25, MAP_OBJECTIVE_MIN_POLL_RADIUS)
 }
 
-// Looks from the direction at `from` on; an unmoved candidate is skipped.
-fn look(radius: f64, centre: Point, axis: Direction, from: usize) -> Looked
-    ensures { looks_as axis result ≡ mesh.look radius centre (drop from (mesh.directions axis)) }
-{
-    let mut j = from;
-    while j < DIRECTIONS {
-        let d = direction_at(axis, j);
-        let c = candidate(radius, centre, d);
-        j += 1;
-        if !is_unmoved(c, centre) {
-            return Looked::Moved(c, j);
+impl Pass {
+    // The pass with which the poll begins; the information gives its directions.
+    pub fn first(information: Symmetric2, centre: Point, current: f64) -> Pass
+        ensures { pass_of result ≡ mesh.first_pass information centre current }
+    {
+        Pass {
+            axis: numeric::poll_direction(information.a00, information.a01, information.a11),
+            radius: MAP_OBJECTIVE_INITIAL_POLL_RADIUS,
+            smaller: SMALLER_RADII,
+            centre,
+            current,
+            next: 0,
+            best: current,
+            best_point: centre,
+            evaluations: 0,
         }
     }
-    Looked::NoneMoved
-}
 
-// The poll's end at a radius where no direction had a material gain.
-fn searched(radius: f64, centre: Point, current: f64, best: f64, evaluations: usize) -> Poll
-    ensures { poll_of result ≡ mesh.searched radius centre current best evaluations }
-{
-    let improvement = numeric::max(current - best, 0.0);
-    Poll {
-        point: centre,
-        convergence: Convergence::ObjectiveMesh(radius, improvement),
-        evaluations,
-    }
-}
-
-// A pass that begins, with the index of the first direction not yet looked at.
-fn pass_at(
-    axis: Direction,
-    radius: f64,
-    smaller: usize,
-    centre: Point,
-    current: f64,
-    evaluations: usize,
-    next: usize,
-) -> Pass
-    ensures { pass_of result ≡ mesh.pass_at axis radius smaller centre current evaluations (drop next (mesh.directions axis)) }
-{
-    Pass {
-        axis,
-        radius,
-        smaller,
-        centre,
-        current,
-        next,
-        best: current,
-        best_point: centre,
-        evaluations,
-    }
-}
-
-// After a pass without a material gain: the next radius at which a candidate moves, or the end.
-fn ungained(
-    axis: Direction,
-    radius: f64,
-    smaller: usize,
-    centre: Point,
-    current: f64,
-    best: f64,
-    evaluations: usize,
-) -> PollStep
-    ensures { says result ≡ mesh.ungained axis radius smaller centre current best evaluations }
-{
-    let mut radius_now = radius;
-    let mut left = smaller;
-    let mut best_now = best;
-    while left > 0 {
-        left -= 1;
-        radius_now = quartered(radius_now);
-        let found = look(radius_now, centre, axis, 0);
-        if let Looked::Moved(c, next) = found {
-            let s = pass_at(axis, radius_now, left, centre, current, evaluations, next);
-            return PollStep::Evaluates(c, s);
+    // The pass from its first direction on, with nothing seen yet.
+    fn restarted(self) -> Pass
+        ensures { pass_of result ≡ mesh.pass_at self.axis self.radius self.smaller self.centre self.current self.evaluations (mesh.directions self.axis) }
+    {
+        Pass {
+            next: 0,
+            best: self.current,
+            best_point: self.centre,
+            ..self
         }
-        best_now = current;
     }
-    let r = searched(radius_now, centre, current, best_now, evaluations);
-    PollStep::Ended(r)
-}
 
-// A new pass. Where every candidate is unmoved the best is the current one, and nothing is gained.
-fn begin(
-    axis: Direction,
-    radius: f64,
-    smaller: usize,
-    centre: Point,
-    current: f64,
-    evaluations: usize,
-) -> PollStep
-    ensures { says result ≡ mesh.begin axis radius smaller centre current evaluations }
-{
-    let found = look(radius, centre, axis, 0);
-    match found {
-        Looked::Moved(c, next) => {
-            let s = pass_at(axis, radius, smaller, centre, current, evaluations, next);
-            PollStep::Evaluates(c, s)
+    // The next direction that leads to another point than the centre: the candidate, and the index of the direction after it. An unmoved candidate is skipped.
+    #[tactic(auto, unfolding(definition::specs::Mesh::look, definition::specs::Mesh::unmoved_of))]
+    fn look(self) -> Option<(Point, usize)>
+        ensures { looks_as self.axis result ≡ mesh.look self.radius self.centre (drop self.next (mesh.directions self.axis)) }
+    {
+        let directions = directions(self.axis);
+        for j in self.next..8 {
+            let c = candidate(self.radius, self.centre, directions[j]);
+            if c != self.centre {
+                return Some((c, j + 1));
+            }
         }
-        Looked::NoneMoved => ungained(axis, radius, smaller, centre, current, current, evaluations),
+        None
     }
-}
 
-// The pass has looked in all eight directions: a material gain moves the centre and keeps radius and directions.
-fn judged(s: Pass) -> PollStep
-    ensures { says result ≡ mesh.judged (pass_of s) }
-{
-    let axis = s.axis;
-    let kept = s.centre;
-    let best_point = s.best_point;
-    if criteria::objective_improvement_is_material(s.current, s.best) {
-        return begin(axis, s.radius, s.smaller, best_point, s.best, s.evaluations);
+    // The poll's end at a radius where no direction had a material gain.
+    fn searched(self) -> Poll
+        ensures { poll_of result ≡ mesh.searched self.radius self.centre self.current self.best self.evaluations }
+    {
+        Poll {
+            point: self.centre,
+            convergence: Some(Convergence::ObjectiveMesh {
+                radius: self.radius,
+                improvement: numeric::max(self.current - self.best, 0.0),
+            }),
+            evaluations: self.evaluations,
+        }
     }
-    ungained(
-        axis,
-        s.radius,
-        s.smaller,
-        kept,
-        s.current,
-        s.best,
-        s.evaluations,
-    )
-}
 
-// What comes next in the poll.
-pub fn next_step(s: Pass) -> PollStep
-    ensures { says result ≡ mesh.poll_step (pass_of s) }
-{
-    let axis = s.axis;
-    let centre = s.centre;
-    let found = look(s.radius, centre, axis, s.next);
-    match found {
-        Looked::Moved(c, next) => PollStep::Evaluates(c, Pass { next, ..s }),
-        Looked::NoneMoved => judged(s),
+    // After a pass without a material gain: the next radius at which a candidate moves, or the end.
+    #[tactic(auto, unfolding(definition::specs::Mesh::ungained))]
+    fn ungained(self) -> PollStep
+        ensures { says result ≡ mesh.ungained self.axis self.radius self.smaller self.centre self.current self.best self.evaluations }
+    {
+        let mut s = self;
+        for smaller in (0..self.smaller).rev() {
+            s.radius = quartered(s.radius);
+            s.smaller = smaller;
+            s = s.restarted();
+            if let Some((c, next)) = s.look() {
+                return PollStep::Evaluates(c, Pass { next, ..s });
+            }
+        }
+        PollStep::Ended(s.searched())
     }
-}
 
-// A candidate's objective is there: it is the best if it is below the best so far. At the limit of evaluations the pass stays as it is.
-pub fn seen(c: Point, value: f64, s: Pass) -> Pass
-    ensures { pass_of result ≡ seen_within c value (pass_of s) }
-{
-    if s.evaluations >= MAP_OBJECTIVE_MAX_POLL_EVALUATIONS {
-        return s;
+    // A new pass. Where every candidate is unmoved the best is the current one, and nothing is gained.
+    #[tactic(auto, unfolding(definition::specs::Mesh::begin))]
+    fn begin(self) -> PollStep
+        ensures { says result ≡ mesh.begin self.axis self.radius self.smaller self.centre self.current self.evaluations }
+    {
+        let s = self.restarted();
+        match s.look() {
+            Some((c, next)) => PollStep::Evaluates(c, Pass { next, ..s }),
+            None => s.ungained(),
+        }
     }
-    let evaluations = s.evaluations + 1;
-    if value < s.best {
-        return Pass {
-            best: value,
-            best_point: c,
+
+    // The pass has looked in all eight directions: a material gain moves the centre and keeps radius and directions.
+    #[tactic(auto, unfolding(definition::specs::Mesh::judged))]
+    fn judged(self) -> PollStep
+        ensures { says result ≡ mesh.judged (pass_of self) }
+    {
+        if criteria::objective_improvement_is_material(self.current, self.best) {
+            let moved = Pass {
+                centre: self.best_point,
+                current: self.best,
+                ..self
+            };
+            return moved.begin();
+        }
+        self.ungained()
+    }
+
+    // What comes next in the poll.
+    #[tactic(auto, unfolding(definition::specs::Mesh::poll_step))]
+    pub fn next_step(self) -> PollStep
+        ensures { says result ≡ mesh.poll_step (pass_of self) }
+    {
+        match self.look() {
+            Some((c, next)) => PollStep::Evaluates(c, Pass { next, ..self }),
+            None => self.judged(),
+        }
+    }
+
+    // A candidate's objective is there: it is the best if it is below the best so far. At the limit of evaluations the pass stays as it is.
+    #[tactic(auto, unfolding(definition::specs::Mesh::seen))]
+    pub fn seen(self, c: Point, value: f64) -> Pass
+        ensures { pass_of result ≡ seen_within c value (pass_of self) }
+    {
+        if self.evaluations >= MAP_OBJECTIVE_MAX_POLL_EVALUATIONS {
+            return self;
+        }
+        let evaluations = self.evaluations + 1;
+        if value < self.best {
+            return Pass {
+                best: value,
+                best_point: c,
+                evaluations,
+                ..self
+            };
+        }
+        Pass {
             evaluations,
-            ..s
-        };
+            ..self
+        }
     }
-    Pass { evaluations, ..s }
-}
 
-// The limit of evaluations stops the poll. A gain is kept; without one the last radius still counts as searched, also where the pass was cut.
-pub fn stopped(s: Pass) -> Poll
-    ensures { poll_of result ≡ mesh.stopped (pass_of s) }
-{
-    let centre = s.centre;
-    let best_point = s.best_point;
-    let gained = criteria::objective_improvement_is_material(s.current, s.best);
-    if gained {
-        return Poll {
-            point: best_point,
-            convergence: Convergence::NotConverged,
-            evaluations: s.evaluations,
-        };
+    // The limit of evaluations stops the poll. A gain is kept; without one the last radius still counts as searched, also where the pass was cut.
+    #[tactic(auto, unfolding(definition::specs::Mesh::stopped))]
+    pub fn stopped(self) -> Poll
+        ensures { poll_of result ≡ mesh.stopped (pass_of self) }
+    {
+        let gained = criteria::objective_improvement_is_material(self.current, self.best);
+        if gained {
+            return Poll {
+                point: self.best_point,
+                convergence: None,
+                evaluations: self.evaluations,
+            };
+        }
+        if self.smaller == 0 {
+            return self.searched();
+        }
+        Poll {
+            point: self.centre,
+            convergence: None,
+            evaluations: self.evaluations,
+        }
     }
-    if s.smaller == 0 {
-        return searched(s.radius, centre, s.current, s.best, s.evaluations);
-    }
-    Poll {
-        point: centre,
-        convergence: Convergence::NotConverged,
-        evaluations: s.evaluations,
-    }
-}
-
-// The pass with which the poll begins; the information gives its directions.
-pub fn first_pass(information: Symmetric2, centre: Point, current: f64) -> Pass
-    ensures { pass_of result ≡ mesh.first_pass information centre current }
-{
-    let axis = numeric::poll_direction(information.a00, information.a01, information.a11);
-    pass_at(
-        axis,
-        MAP_OBJECTIVE_INITIAL_POLL_RADIUS,
-        SMALLER_RADII,
-        centre,
-        current,
-        0,
-        0,
-    )
 }

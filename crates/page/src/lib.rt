@@ -1,73 +1,81 @@
 // The page of the report that stands: one more call that reads a session.
 #![tactic(auto)]
 
-ghost use Rattle.std.specs.Prelude.{◌≡◌, false, map, length, take};
-ghost use Rattle.std.proofs.Math.Option.{some};
-ghost use Rattle.definition.specs.Summary.{Report};
-ghost use Rattle.report.specs.Reading.{HeadOf, report_in};
+ghost use Rattle.std.specs.Prelude.{◌≡◌, length};
+ghost use Rattle.report.specs.Reading.{report_in};
 ghost use Rattle.editing.specs.Meaning.{state};
 ghost use Rattle.report_text.specs.Writing.{Writes};
-ghost use Rattle.answer_text.specs.Answers.{results_in, bands_in};
-ghost use Rattle.page_text.specs.Page.{shot_line, band_line, joined_lines, page_text, lines_in, page_in};
+ghost use Rattle.report_text.specs.Writer.{Wrote};
+ghost use Rattle.answer_text.specs.Answers.{texts_in};
+ghost use Rattle.page_text.specs.Page.{shot_line, band_line, lines_in, page_in};
+ghost use Rattle.page.specs.Shown.{shown_page};
 
 use editing::Session;
-use report::{BandAt, ResultAt, Shown, UncertaintyTruingReportV1};
+use page_text::{Band, Shot};
+use report::UncertaintyTruingReportV1;
+use report_text::{Places, Writer, put_each};
 
-// The lines of the first n observations.
-fn put_shots(out: &mut [u8], at: usize, s: Session, n: usize) -> usize
-    ensures { Writes out.old at out.new result (joined_lines (map shot_line (take n (results_in false s)))) }
-{
-    let mut next = report_text::put_bytes(out, at, b"");
-    let mut i = 0usize;
-    while i < n {
-        let found = editing::observation_result(s, i);
-        let ResultAt::Given(o) = found else {
-            return next;
-        };
-        next = page_text::put_shot(out, next, o);
-        i += 1;
+// ---- the lines of the report's lists
+
+#[derive(Clone, Copy)]
+struct Shots<'a>(&'a Session);
+
+impl Places for Shots<'_> {
+    type Item = Shot;
+
+    ghost texts = { λ l i. texts_in shot_line (λ p. p.observations) l.0.now i };
+
+    #[tactic(auto, using(answer_text::proofs::Laws::said_texts))]
+    fn get(&self, i: usize) -> Option<Shot> {
+        Some(Shot(editing::observation_result(*self.0, i)?))
     }
-    next
 }
 
-// The lines of the first n bands.
-fn put_bands(out: &mut [u8], at: usize, s: Session, n: usize) -> usize
-    ensures { Writes out.old at out.new result (joined_lines (map band_line (take n (bands_in s)))) }
-{
-    let mut next = report_text::put_bytes(out, at, b"");
-    let mut i = 0usize;
-    while i < n {
-        let found = editing::predictive_band(s, i);
-        let BandAt::Given(b) = found else {
-            return next;
-        };
-        next = page_text::put_band(out, next, b);
-        i += 1;
+#[derive(Clone, Copy)]
+struct Bands<'a>(&'a Session);
+
+impl Places for Bands<'_> {
+    type Item = Band;
+
+    ghost texts = { λ l i. texts_in band_line (λ p. p.bands) l.0.now i };
+
+    #[tactic(auto, using(answer_text::proofs::Laws::said_texts))]
+    fn get(&self, i: usize) -> Option<Band> {
+        Some(Band(editing::predictive_band(*self.0, i)?))
     }
-    next
 }
 
-// The page of a report by its head, its lists read from the session.
-fn put_given(out: &mut [u8], at: usize, s: Session, h: UncertaintyTruingReportV1) -> usize
-    ensures { (p : Report) → report_in (state s) ≡ some p → HeadOf h p → Writes out.old at out.new result (page_text p) }
+// ---- the page
+
+// A report by its head, its lists read from the session.
+#[tactic(auto, using(crate::proofs::Laws::shown_put, page_text::proofs::Laws::by_nothing))]
+fn put_shown(w: &mut Writer<'_>, s: &Session, h: UncertaintyTruingReportV1)
+    ensures { Wrote w.old w.new (shown_page s.now h) }
 {
-    let n = h.observations;
-    let m = h.predictive_bands;
-    let found = h.warnings;
-    let at = page_text::put_head(out, at, h);
-    let at = put_shots(out, at, s, n);
-    let at = put_bands(out, at, s, m);
-    page_text::put_warnings(out, at, found)
+    page_text::put_head(w, h);
+    put_each(w, b"", h.observations, &Shots(s));
+    put_each(w, b"", h.predictive_bands, &Bands(s));
+    page_text::put_warnings(w, h.warnings);
 }
 
-// The page from `at` on; where no report stands there is none.
+// Where no report stands there is no page.
+#[tactic(auto, using(crate::proofs::Laws::one_stands, crate::proofs::Laws::none_stands, report_text::proofs::Putting::wrote_nothing))]
+pub fn write_page(w: &mut Writer<'_>, s: Session)
+    ensures { Wrote w.old w.new (page_in (report_in (state s))) }
+{
+    match editing::report(s) {
+        None => {}
+        Some(h) => put_shown(w, &s, h),
+    }
+}
+
+// The page from `at` on: the next position.
 pub fn put_page(out: &mut [u8], at: usize, s: Session) -> usize
     ensures { Writes out.old at out.new result (page_in (report_in (state s))) }
 {
-    match editing::report(s) {
-        Shown::Absent => report_text::put_bytes(out, at, b""),
-        Shown::Given(h) => put_given(out, at, s, h),
-    }
+    let mut w = Writer::new(out, at);
+    write_page(&mut w, s);
+    w.at()
 }
 
 // How many lines the page has.
@@ -75,10 +83,7 @@ pub fn lines(s: Session) -> usize
     ensures { result ≡ length (lines_in (report_in (state s))) }
 {
     match editing::report(s) {
-        Shown::Absent => 0,
-        Shown::Given(h) => {
-            let found = h.warnings;
-            3 + h.observations + h.predictive_bands + page_text::warnings(found)
-        }
+        None => 0,
+        Some(h) => { 3 + h.observations + h.predictive_bands + page_text::warnings(h.warnings) }
     }
 }

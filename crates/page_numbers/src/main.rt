@@ -1,7 +1,6 @@
 // Reads doubles, a line of the 16 hexadecimal digits of its bits each, and writes the 14 columns that a page has for each. A line of another form ends it.
 #![tactic(auto)]
 
-use numerals::ReadDouble;
 use std::io;
 use std::io::{ErrorKind, Read};
 
@@ -28,8 +27,8 @@ fn answer<R: Read>(rt: &HostRuntime, input: &mut R) -> io::Result<bool> {
         return Ok(false);
     }
     match numerals::read_double(&line[..16]) {
-        ReadDouble::Malformed => Ok(false),
-        ReadDouble::Double(x) => {
+        None => Ok(false),
+        Some(x) => {
             // A number takes 14 columns; the byte behind them stays.
             let mut columns = [10u8; 15];
             let next = page_text::put_number(&mut columns, 0, x);

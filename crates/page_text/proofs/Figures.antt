@@ -1,13 +1,12 @@
 -- Numbers and pages worked out by exact fractions, apart from the definition: it computes them. Assumes nothing.
+use Rattle.std.specs.Prelude.{None, Some}
 use Prim.Native.Nat.{ℕ}
 use Prim.Native.String.{String}
 use mathlib.Core.Path.{◌≡◌, refl}
 use mathlib.Core.Bool.{true, false}
 use mathlib.Core.List.{List, [], ◌∷◌, ◌++◌, map}
-use mathlib.Core.Option.{none, some}
 use lib.Ieee.{Float, binary64, of_bits}
 use Rattle.definition.specs.Summary.{Report, unavailable}
-use Rattle.definition.specs.declared.Prior.TheVariants.{Absent}
 use Rattle.definition.specs.declared.TruingApproximationFailureCodeV1.TheVariants as Failure
 use Rattle.definition.specs.declared.TruingMapConvergenceCriterionV1.TheVariants as Criterion
 use Rattle.definition.specs.declared.TruingUncertaintyWarningCodeV1.TheVariants as Warning
@@ -144,10 +143,10 @@ bench = record {
   point = record { mv = bits 0x409f400000000000; bc = bits 0x3fd3333333333333 };
   iterations = 1;
   is_converged = true;
-  priors = record { muzzle_velocity_fps = Absent; ballistic_coefficient = Absent };
+  priors = record { muzzle_velocity_fps = None; ballistic_coefficient = None };
   observations = bench_results;
   baseline =
-      some (record {
+      Some (record {
         entered = record { mv = bits 0x409f400000000000; bc = bits 0x3fd3333333333333 };
         chi_square = bits 0x3ff0000000000000;
         observations = bench_results;
@@ -156,22 +155,22 @@ bench = record {
     chi_square = bits 0x3ff0000000000000;
     prior_penalty = bits 0x0000000000000000;
     penalized_chi_square = bits 0x3ff0000000000000;
-    effective_parameter_count = none;
-    effective_degrees_of_freedom = none;
-    reduced = none;
+    effective_parameter_count = None;
+    effective_degrees_of_freedom = None;
+    reduced = None;
     bc_sensitivity_ratio = bits 0x0000000000000000;
     data_condition_number = bits 0x7ff0000000000000;
     gradient_norm = bits 0x0000000000000000;
-    convergence_criterion = some Criterion.ScaledGradient;
-    objective_poll_radius = none;
-    objective_poll_improvement = none;
+    convergence_criterion = Some Criterion.ScaledGradient;
+    objective_poll_radius = None;
+    objective_poll_improvement = None;
     objective_poll_evaluations = 0;
   };
   approximation = unavailable Failure.RankDeficientInformation;
   bands =
-      record { range = bits 0x4062c00000000000; predicted_drop = bits 0x4024000000000000; latent = none; future = none }
-      ∷ record { range = bits 0x4064000000000000; predicted_drop = bits 0x4024000000000000; latent = none; future = none }
-      ∷ record { range = bits 0x4065400000000000; predicted_drop = bits 0x7ff8000000000000; latent = none; future = none }
+      record { range = bits 0x4062c00000000000; predicted_drop = bits 0x4024000000000000; latent = None; future = None }
+      ∷ record { range = bits 0x4064000000000000; predicted_drop = bits 0x4024000000000000; latent = None; future = None }
+      ∷ record { range = bits 0x4065400000000000; predicted_drop = bits 0x7ff8000000000000; latent = None; future = None }
       ∷ [];
   warnings = Warning.WeakBcSensitivity ∷ Warning.IllConditionedData ∷ Warning.GaussianApproximationUnavailable ∷ [];
 }
@@ -211,22 +210,22 @@ odd = record {
   point = record { mv = bits 0x7ff8000000000000; bc = bits 0x3fb0000000000000 };
   iterations = 1;
   is_converged = false;
-  priors = record { muzzle_velocity_fps = Absent; ballistic_coefficient = Absent };
+  priors = record { muzzle_velocity_fps = None; ballistic_coefficient = None };
   observations = odd_results;
-  baseline = none;
+  baseline = None;
   diagnostics = record {
     chi_square = bits 0x7ff0000000000000;
     prior_penalty = bits 0x0000000000000000;
     penalized_chi_square = bits 0x7ff0000000000000;
-    effective_parameter_count = none;
-    effective_degrees_of_freedom = none;
-    reduced = none;
+    effective_parameter_count = None;
+    effective_degrees_of_freedom = None;
+    reduced = None;
     bc_sensitivity_ratio = bits 0x0000000000000000;
     data_condition_number = bits 0x7ff0000000000000;
     gradient_norm = bits 0x7ff8000000000000;
-    convergence_criterion = none;
-    objective_poll_radius = none;
-    objective_poll_improvement = none;
+    convergence_criterion = None;
+    objective_poll_radius = None;
+    objective_poll_improvement = None;
     objective_poll_evaluations = 1024;
   };
   approximation = unavailable Failure.OptimizerDidNotConverge;

@@ -1,24 +1,31 @@
--- How the parts make the page: blanks, the phrases' rows, the warnings one after another.
-use Prim.Native.Nat.{ℕ, zero, suc, ◌+◌, ◌-◌, ◌*◌, ◌≤◌}
+-- How the parts make the page: a number's columns, a line, the warnings, the lists between the parts.
+use Rattle.std.specs.Prelude.{count_by}
+use Prim.Native.Nat.{ℕ, zero, suc, ◌+◌, ◌-◌, ◌/◌, ◌%◌, ◌≤◌}
 use mathlib.Core.Path.{◌≡◌, refl, sym, ap, ◌∙◌}
 use mathlib.Core.Bool.{Bool, true, false, cond}
-use mathlib.Core.List.{List, [], ◌∷◌, ◌++◌, map, append-nil, append_assoc}
+use mathlib.Core.List.{List, [], ◌∷◌, ◌++◌, map, append_assoc}
 use native.Mathlib.Omega.{arith}
-use lib.ListN.{length, take, drop, length-append, length-map}
-use lib.Ieee.{Float}
+use lib.Seq.{take_at}
+use mir.Val.{bool_byte}
+use lib.ListN.{length, take, length-append, length-map}
 use Rattle.definition.specs.Summary.{warn, Band, Report}
 use Rattle.definition.specs.declared.TruingUncertaintyWarningCodeV1.{TruingUncertaintyWarningCodeV1}
-use Rattle.definition.specs.declared.TruingUncertaintyWarningCodeV1.TheVariants as Warning
-use Rattle.warnings.specs.Warnings.{codes, codes_of}
+use Rattle.definition.specs.Meaning.{approximation_says}
+use Rattle.warnings.specs.Warnings.{codes, codes_of, stands_in}
 use Rattle.warnings.specs.declared.Warnings.{Warnings}
+use Rattle.warnings.specs.declared.TheConstants.{CODES}
 use Rattle.report.specs.Report.{Results, seen_of}
 use Rattle.report.specs.declared.UncertaintyTruingReportV1.{UncertaintyTruingReportV1}
 use Rattle.report_text.specs.Writing.{Text}
-use Rattle.page_text.specs.Columns.{blanks, row_text}
-use Rattle.page_text.specs.declared.Cell.TheVariants.{Number}
-use Rattle.page_text.specs.declared.Ends.{Ends}
-use Rattle.page_text.specs.Page.{shot_line, band_line, phrase_text, warning_line, page_lines, joined_lines, page_text}
-use Rattle.page_text.specs.Pieces.{head_text, phrase_rows, row_of}
+use Rattle.report_text.specs.Writer.{Held, put}
+use Rattle.report_text.specs.Lists.{after_each, separated}
+use Rattle.report_text.proofs.Putting.{put_put}
+use Rattle.page_text.specs.Columns.{blanks, right_aligned, sign_text, three_text, fixed_text, cell_text, row_text}
+use Rattle.numerals.specs.Numbers.{count_text, in20}
+use Rattle.page_text.proofs.Lengths.{fixed_length}
+use Rattle.page_text.specs.declared.Cell.{Cell}
+use Rattle.page_text.specs.Page.{speed_line, coefficient_line, chi_square_line, shot_line, band_line, warning_line, page_lines, joined_lines, page_text}
+use Rattle.page_text.specs.Pieces.{head_text}
 
 -- the first n of some blanks
 pub first_blanks : (n k : ℕ) → n ≤ k → take n (blanks k) ≡ blanks n
@@ -26,99 +33,54 @@ first_blanks zero k h = refl
 first_blanks (suc n) zero h = absurd (omega arith)
 first_blanks (suc n) (suc k) h = ap (λ (t : Text). 32 ∷ t) (first_blanks n k (omega arith))
 
--- a line by the ends of an interval
-pub by_ends : (label : Text) (x : Float) {d e : Ends} → d ≡ e → row_text label (Number x) d.lower d.upper ≡ row_text label (Number x) e.lower e.upper
-by_ends label x e = ap (λ (f : Ends). row_text label (Number x) f.lower f.upper) e
+one_if : (b : Bool) → bool_byte b ≡ cond b 1 0
+one_if true = refl
+one_if false = refl
 
--- ---- the phrases
+pub digits_are : {digits s : Text} {len : ℕ} → (digits ≡ in20 s) × (len ≡ length s) → take len digits ≡ s
+digits_are {digits} {s} {len} e = ap (take len) e.0 ∙ take_at s _ len (sym e.1)
 
-pub row_at : (code : TruingUncertaintyWarningCodeV1) → take 24 (drop (row_of code * 24) phrase_rows) ≡ phrase_text code
-unfolding row_of phrase_rows phrase_text
-row_at Warning.OptimizerDidNotConverge = refl
-row_at Warning.ObjectiveMeshConvergence = refl
-row_at Warning.WeakBcSensitivity = refl
-row_at Warning.IllConditionedData = refl
-row_at Warning.MvPriorDominated = refl
-row_at Warning.BcPriorDominated = refl
-row_at Warning.GaussianApproximationUnavailable = refl
-row_at Warning.IntervalCrossesFitBounds = refl
-row_at Warning.LowEffectiveDegreesOfFreedom = refl
-row_at Warning.PredictionOutsideObservedDomain = refl
+-- a number is its parts
+pub fixed_put : (minus : Bool) (q : ℕ) {sign room : ℕ} {whole : Text} (h : Held) → whole ≡ count_text (q / 1000) → sign ≡ bool_byte minus
+    → room ≡ 14 - (sign + length whole + 4)
+    → put (46 ∷ three_text (q % 1000)) (put whole (put (sign_text minus) (put (take room (blanks 14)) h))) ≡ put (right_aligned 14 (fixed_text minus q)) h
+fixed_put minus q {sign} {room} {whole} h e s f =
+    let n : room ≡ 14 - length (fixed_text minus q) = omega (arith, fixed_length minus q, ap length e, one_if minus) in
+    let l : room ≤ 14 = omega arith in
+    rw (first_blanks room 14 l, e, n)
+    (simp (put_put, append_assoc))
 
--- from the row that the code looks up, in the rows that it holds
-pub by_row : (code : TruingUncertaintyWarningCodeV1) {k : ℕ} {rows : Text} → k ≡ row_of code → rows ≡ phrase_rows
-    → take (k * 24 + 24 - k * 24) (drop (k * 24) rows) ≡ phrase_text code
-by_row code {k} {rows} e f =
-    let n : k * 24 + 24 - k * 24 ≡ 24 = omega arith in
-    ap (λ (i : ℕ). take i (drop (k * 24) rows)) n
-    ∙ ap (λ (i : ℕ). take 24 (drop (i * 24) rows)) e
-    ∙ ap (λ (t : Text). take 24 (drop (row_of code * 24) t)) f ∙ row_at code
+-- a line is its parts
+pub row_put : (label : Text) (a b c : Cell) (h : Held)
+    → put (32 ∷ 32 ∷ 10 ∷ []) (put (cell_text c) (put (cell_text b) (put (cell_text a) (put label h)))) ≡ put (row_text label a b c) h
+unfolding row_text
+row_put label a b c h = simp (put_put, append_assoc)
 
-pub rows_length : {rows : Text} → rows ≡ phrase_rows → length rows ≡ 240
-unfolding phrase_rows phrase_text
-rows_length e = ap length e
+-- the lines before the lists
+pub head_put : (r : UncertaintyTruingReportV1) (h : Held)
+    → put (chi_square_line r.diagnostics.chi_square) (put (coefficient_line r.map_ballistic_coefficient (approximation_says r.approximation))
+    (put (speed_line r.map_muzzle_velocity_fps (approximation_says r.approximation)) h))
+    ≡ put (head_text r) h
+unfolding head_text
+head_put r h = simp (put_put, append_assoc)
 
-pub row_below : (code : TruingUncertaintyWarningCodeV1) → row_of code ≤ 9
-unfolding row_of
-row_below Warning.OptimizerDidNotConverge = omega arith
-row_below Warning.ObjectiveMeshConvergence = omega arith
-row_below Warning.WeakBcSensitivity = omega arith
-row_below Warning.IllConditionedData = omega arith
-row_below Warning.MvPriorDominated = omega arith
-row_below Warning.BcPriorDominated = omega arith
-row_below Warning.GaussianApproximationUnavailable = omega arith
-row_below Warning.IntervalCrossesFitBounds = omega arith
-row_below Warning.LowEffectiveDegreesOfFreedom = omega arith
-row_below Warning.PredictionOutsideObservedDomain = omega arith
+-- lines with nothing between two
+nothing_between : (ts : List Text) → after_each [] ts ≡ joined_lines ts
+nothing_between [] = refl
+nothing_between (t ∷ ts) = ap (λ (s : Text). t ++ s) (nothing_between ts)
 
--- ---- the warnings
+pub by_nothing : (ts : List Text) → separated [] ts ≡ joined_lines ts
+by_nothing [] = refl
+by_nothing (t ∷ ts) = ap (λ (s : Text). t ++ s) (nothing_between ts)
 
-warn_lines : (stands : Bool) (code : TruingUncertaintyWarningCodeV1) (l : List TruingUncertaintyWarningCodeV1)
-    → joined_lines (map warning_line (warn stands code l)) ≡ cond stands (warning_line code) [] ++ joined_lines (map warning_line l)
-warn_lines true code l = refl
-warn_lines false code l = refl
+-- ---- how many warnings stand
 
 warn_length : (stands : Bool) (code : TruingUncertaintyWarningCodeV1) (l : List TruingUncertaintyWarningCodeV1)
     → length (warn stands code l) ≡ cond stands 1 0 + length l
 warn_length true code l = omega arith
 warn_length false code l = omega arith
 
-last_line : (stands : Bool) (code : TruingUncertaintyWarningCodeV1)
-    → joined_lines (map warning_line (warn stands code [])) ≡ cond stands (warning_line code) []
-last_line true code = append-nil (warning_line code)
-last_line false code = refl
-
-abbrev line_if : Bool → TruingUncertaintyWarningCodeV1 → Text
-line_if stands code = cond stands (warning_line code) []
-
--- the ten, one after another
-pub warnings_lines : (w : Warnings)
-    → line_if w.optimizer_did_not_converge Warning.OptimizerDidNotConverge
-    ++ (line_if w.objective_mesh_convergence Warning.ObjectiveMeshConvergence
-    ++ (line_if w.weak_bc_sensitivity Warning.WeakBcSensitivity
-    ++ (line_if w.ill_conditioned_data Warning.IllConditionedData
-    ++ (line_if w.mv_prior_dominated Warning.MvPriorDominated
-    ++ (line_if w.bc_prior_dominated Warning.BcPriorDominated
-    ++ (line_if w.gaussian_approximation_unavailable Warning.GaussianApproximationUnavailable
-    ++ (line_if w.interval_crosses_fit_bounds Warning.IntervalCrossesFitBounds
-    ++ (line_if w.low_effective_degrees_of_freedom Warning.LowEffectiveDegreesOfFreedom
-    ++ line_if w.prediction_outside_observed_domain Warning.PredictionOutsideObservedDomain))))))))
-    ≡ joined_lines (map warning_line (codes_of w))
-unfolding codes
-warnings_lines w = sym (rw (
-  warn_lines w.optimizer_did_not_converge,
-  warn_lines w.objective_mesh_convergence,
-  warn_lines w.weak_bc_sensitivity,
-  warn_lines w.ill_conditioned_data,
-  warn_lines w.mv_prior_dominated,
-  warn_lines w.bc_prior_dominated,
-  warn_lines w.gaussian_approximation_unavailable,
-  warn_lines w.interval_crosses_fit_bounds,
-  warn_lines w.low_effective_degrees_of_freedom,
-  last_line w.prediction_outside_observed_domain,
-))
-
-pub codes_length : (w : Warnings)
+codes_length : (w : Warnings)
     → length (codes_of w)
     ≡ cond w.optimizer_did_not_converge 1 0
     + (cond w.objective_mesh_convergence 1 0
@@ -132,6 +94,9 @@ pub codes_length : (w : Warnings)
     + (cond w.prediction_outside_observed_domain 1 0 + 0)))))))))
 unfolding codes
 codes_length w = simp warn_length
+
+pub standing_count : (w : Warnings) → count_by (stands_in w) CODES ≡ length (codes_of w)
+standing_count w = omega (arith, codes_length w)
 
 -- ---- the page
 

@@ -1,6 +1,5 @@
 -- The page for the counter (L1): a report as lines of 64 columns, each ended by a line feed.
-use Rattle.std.specs.Prelude.{◌≡◌, List, [], ◌∷◌, ◌++◌, map, length, take, Float}
-use Rattle.std.proofs.Math.Option.{Option, none, some}
+use Rattle.std.specs.Prelude.{◌≡◌, List, [], ◌∷◌, ◌++◌, map, length, take, Float, Option, None, Some}
 use Rattle.interval.specs.declared.GaussianIntervalV1.{GaussianIntervalV1}
 use Rattle.definition.specs.Summary.{Approximation, available, unavailable, Band, Report}
 use Rattle.definition.specs.declared.TruingUncertaintyWarningCodeV1.{TruingUncertaintyWarningCodeV1}
@@ -16,16 +15,16 @@ use Rattle.page_text.specs.declared.Ends.{Ends}
 
 -- the ends of an interval; where there is none, each is missing: a hyphen
 abbrev pub ends_of : Option GaussianIntervalV1 → Ends
-ends_of none = record { lower = Mark 45; upper = Mark 45 }
-ends_of (some g) = record { lower = Number g.lower; upper = Number g.upper }
+ends_of None = record { lower = Mark 45; upper = Mark 45 }
+ends_of (Some g) = record { lower = Number g.lower; upper = Number g.upper }
 
 abbrev pub speed_interval : Approximation → Option GaussianIntervalV1
-speed_interval (available g q) = some g.muzzle_velocity_interval_95
-speed_interval (unavailable code) = none
+speed_interval (available g q) = Some g.muzzle_velocity_interval_95
+speed_interval (unavailable code) = None
 
 abbrev pub coefficient_interval : Approximation → Option GaussianIntervalV1
-coefficient_interval (available g q) = some g.ballistic_coefficient_interval_95
-coefficient_interval (unavailable code) = none
+coefficient_interval (available g q) = Some g.ballistic_coefficient_interval_95
+coefficient_interval (unavailable code) = None
 
 -- ---- the lines
 
@@ -79,8 +78,8 @@ page_text p = joined_lines (page_lines p)
 
 -- where no report stands there is no page
 abbrev pub lines_in : Option Report → List Text
-lines_in none = []
-lines_in (some p) = page_lines p
+lines_in None = []
+lines_in (Some p) = page_lines p
 
 abbrev pub page_in : Option Report → Text
 page_in shown = joined_lines (lines_in shown)

@@ -1,25 +1,29 @@
-// The page for the counter, written into a lent buffer line by line: each function writes from a position on and gives the next one.
+// The lines of the page for the counter.
 #![tactic(auto)]
 
-ghost use Rattle.std.specs.Prelude.{◌≡◌, cond, [], ◌++◌, map, ◌+◌, ◌-◌, ◌*◌, ◌≤◌, ◌<◌, length};
-ghost use Rattle.interval.specs.Interval.{says};
+ghost use Rattle.std.specs.Prelude.{◌≡◌, ◌++◌, map, ◌+◌, ◌<◌, length, count_by};
+ghost use Rattle.interval.specs.declared.GaussianIntervalV1.{GaussianIntervalV1};
 ghost use Rattle.definition.specs.Meaning.{approximation_says};
 ghost use Rattle.bands.specs.Bands.{band_says};
-ghost use Rattle.warnings.specs.Warnings.{codes_of};
+ghost use Rattle.warnings.specs.Warnings.{codes_of, stands_in};
 ghost use Rattle.report_text.specs.Writing.{Writes};
-ghost use Rattle.page_text.specs.Columns.{blanks, right_aligned, sign_text, three_text, fixed_text, number_text, cell_text, row_text};
-ghost use Rattle.page_text.specs.Page.{ends_of, speed_interval, coefficient_interval, speed_line, coefficient_line, chi_square_line, shot_line, band_line};
-ghost use Rattle.page_text.specs.Page.{phrase_text, warning_line, joined_lines};
-ghost use Rattle.page_text.specs.Pieces.{head_text, phrase_rows, row_of};
+ghost use Rattle.report_text.specs.Writer.{Wrote};
+ghost use Rattle.report_text.specs.Lists.{warning_at};
+ghost use Rattle.page_text.specs.Columns.{right_aligned, sign_text, fixed_text, shown_text, number_text, cell_text, row_text};
+ghost use Rattle.page_text.specs.Page.{ends_of, speed_interval, coefficient_interval, shot_line, band_line, phrase_text, warning_line, joined_lines};
+ghost use Rattle.page_text.specs.Pieces.{head_text};
 
 use bands::TruingPredictiveBandV1;
 use definition::{
     TruingApproximationV1, TruingUncertaintyWarningCodeV1, WeightedTruingObservationResultV1,
 };
-use interval::Interval;
+use interval::GaussianIntervalV1;
 use report::UncertaintyTruingReportV1;
+use report_text::{Places, Text, Writer};
 use thousandths::Shown;
-use warnings::Warnings;
+use warnings::{CODES, Warnings};
+
+const BLANKS: [u8; 14] = [b' '; 14];
 
 // What stands in 14 columns: nothing, a mark in place of a missing number, or a number.
 #[derive(Clone, Copy)]
@@ -36,388 +40,262 @@ pub struct Ends {
     pub upper: Cell,
 }
 
-// ---- a number
+impl From<Option<GaussianIntervalV1>> for Ends {
+    ghost from_gives = { λ i ends. ends ≡ ends_of i };
 
-fn put_blanks(out: &mut [u8], at: usize, n: usize) -> usize
-    requires { n ≤ 14 }
-    ensures { Writes out.old at out.new result (blanks n) }
-{
-    let line = [32u8; 14];
-    report_text::put_bytes(out, at, &line[..n])
-}
-
-fn put_sign(out: &mut [u8], at: usize, minus: bool) -> usize
-    ensures { Writes out.old at out.new result (sign_text minus) }
-{
-    if minus {
-        return report_text::put_bytes(out, at, b"-");
+    fn from(i: Option<GaussianIntervalV1>) -> Ends {
+        match i {
+            None => Ends {
+                lower: Cell::Mark(b'-'),
+                upper: Cell::Mark(b'-'),
+            },
+            Some(g) => Ends {
+                lower: Cell::Number(g.lower),
+                upper: Cell::Number(g.upper),
+            },
+        }
     }
-    report_text::put_bytes(out, at, b"")
 }
+
+// ---- a number
 
 fn digit(d: u64) -> u8
     requires { d < 10 }
     ensures { result ≡ 48 + d }
 {
-    48 + d as u8
+    b'0' + d as u8
 }
 
-fn put_three(out: &mut [u8], at: usize, n: u64) -> usize
-    requires { n < 1000 }
-    ensures { Writes out.old at out.new result (three_text n) }
+fn put_sign(w: &mut Writer<'_>, minus: bool)
+    ensures { Wrote w.old w.new (sign_text minus) }
 {
-    let at = report_text::put_byte(out, at, digit(n / 100));
-    let at = report_text::put_byte(out, at, digit(n / 10 % 10));
-    report_text::put_byte(out, at, digit(n % 10))
+    w.put_bytes(if minus { b"-" } else { b"" });
 }
 
-// The blanks before a number with so many digits before its point.
-fn room(minus: bool, len: usize) -> usize
-    ensures { result ≡ 14 - (cond minus 1 0 + (len + 4)) }
+// So many thousandths in 14 columns.
+fn put_fixed(w: &mut Writer<'_>, minus: bool, q: u64)
+    ensures { Wrote w.old w.new (right_aligned 14 (fixed_text minus q)) }
 {
-    if minus {
-        if len < 9 {
-            return 9 - len;
+    let text = numerals::write_count(q / 1000);
+    let whole = &text.digits[..text.len];
+    let room = BLANKS
+        .len()
+        .saturating_sub(usize::from(minus) + whole.len() + 4);
+    w.put_bytes(&BLANKS[..room]);
+    put_sign(w, minus);
+    w.put_bytes(whole);
+    let rest = q % 1000;
+    w.put_bytes(&[
+        b'.',
+        digit(rest / 100),
+        digit(rest / 10 % 10),
+        digit(rest % 10),
+    ]);
+}
+
+#[tactic(auto, unfolding(crate::specs::Columns::number_text, crate::specs::Columns::shown_text))]
+fn put_thousandths(w: &mut Writer<'_>, x: f64)
+    ensures { Wrote w.old w.new (number_text x) }
+{
+    match thousandths::show(x) {
+        Shown::Hyphen => w.put_bytes(b"             -"),
+        Shown::Hashes => w.put_bytes(b"##############"),
+        Shown::Fixed(minus, q) => put_fixed(w, minus, q),
+    }
+}
+
+impl Text for Cell {
+    ghost text = { cell_text };
+
+    #[tactic(auto, using(report_text::proofs::Putting::put_put), unfolding(crate::specs::Columns::cell_text))]
+    fn put(&self, w: &mut Writer<'_>) {
+        match self {
+            Cell::Blank => w.put_bytes(&BLANKS),
+            Cell::Mark(letter) => {
+                w.put_bytes(&BLANKS[1..]);
+                w.put_byte(*letter);
+            }
+            Cell::Number(x) => put_thousandths(w, *x),
         }
-        return 0;
     }
-    if len < 10 {
-        return 10 - len;
-    }
-    0
 }
 
-fn put_fixed(out: &mut [u8], at: usize, minus: bool, q: u64) -> usize
-    ensures { Writes out.old at out.new result (right_aligned 14 (fixed_text minus q)) }
-{
-    let whole = q / 1000;
-    let text = numerals::write_count(whole);
-    let len = text.len;
-    let at = put_blanks(out, at, room(minus, len));
-    let at = put_sign(out, at, minus);
-    let at = report_text::put_count(out, at, whole);
-    let at = report_text::put_byte(out, at, b'.');
-    put_three(out, at, q % 1000)
-}
-
+#[tactic(auto, unfolding(crate::specs::Columns::cell_text))]
 pub fn put_number(out: &mut [u8], at: usize, x: f64) -> usize
     ensures { Writes out.old at out.new result (number_text x) }
 {
-    let shown = thousandths::show(x);
-    match shown {
-        Shown::Hyphen => report_text::put_bytes(out, at, b"             -"),
-        Shown::Hashes => report_text::put_bytes(out, at, b"##############"),
-        Shown::Fixed(minus, q) => put_fixed(out, at, minus, q),
-    }
-}
-
-// ---- a line
-
-fn put_mark(out: &mut [u8], at: usize, letter: u8) -> usize
-    ensures { Writes out.old at out.new result (cell_text (Cell.Mark letter)) }
-{
-    let at = report_text::put_bytes(out, at, b"             ");
-    report_text::put_byte(out, at, letter)
-}
-
-fn put_cell(out: &mut [u8], at: usize, cell: Cell) -> usize
-    ensures { Writes out.old at out.new result (cell_text cell) }
-{
-    match cell {
-        Cell::Blank => report_text::put_bytes(out, at, b"              "),
-        Cell::Mark(letter) => put_mark(out, at, letter),
-        Cell::Number(x) => put_number(out, at, x),
-    }
-}
-
-// The label stands in its 20 columns.
-fn put_row(out: &mut [u8], at: usize, label: &[u8], a: Cell, b: Cell, c: Cell) -> usize
-    ensures { Writes out.old at out.new result (row_text label.now a b c) }
-{
-    let at = report_text::put_bytes(out, at, label);
-    let at = put_cell(out, at, a);
-    let at = put_cell(out, at, b);
-    let at = put_cell(out, at, c);
-    report_text::put_bytes(out, at, b"  \n")
+    report_text::write(out, at, &Cell::Number(x))
 }
 
 // ---- the lines of numbers
 
-fn ends_of(i: Interval) -> Ends
-    ensures { result ≡ ends_of (says i) }
+// The label stands in its 20 columns.
+#[tactic(auto, using(crate::proofs::Laws::row_put))]
+fn put_row(w: &mut Writer<'_>, label: &[u8], a: Cell, b: Cell, c: Cell)
+    ensures { Wrote w.old w.new (row_text label.now a b c) }
 {
-    match i {
-        Interval::Absent => Ends {
-            lower: Cell::Mark(b'-'),
-            upper: Cell::Mark(b'-'),
-        },
-        Interval::Present(g) => Ends {
-            lower: Cell::Number(g.lower),
-            upper: Cell::Number(g.upper),
-        },
-    }
+    w.put_bytes(label);
+    a.put(w);
+    b.put(w);
+    c.put(w);
+    w.put_bytes(b"  \n");
 }
 
-fn speed_interval(a: TruingApproximationV1) -> Interval
-    ensures { says result ≡ speed_interval (approximation_says a) }
+// A value with the ends of its interval.
+fn put_with_ends(w: &mut Writer<'_>, label: &[u8], x: f64, i: Option<GaussianIntervalV1>)
+    ensures { Wrote w.old w.new (row_text label.now (Cell.Number x) (ends_of i).lower (ends_of i).upper) }
+{
+    let Ends { lower, upper } = Ends::from(i);
+    put_row(w, label, Cell::Number(x), lower, upper);
+}
+
+// Those of the speed and of the coefficient.
+fn intervals(a: TruingApproximationV1) -> (Option<GaussianIntervalV1>, Option<GaussianIntervalV1>)
+    ensures { (result.0 ≡ speed_interval (approximation_says a)) × (result.1 ≡ coefficient_interval (approximation_says a)) }
 {
     match a {
-        TruingApproximationV1::Available(g, _) => {
-            let speed = g.muzzle_velocity_interval_95;
-            Interval::Present(speed)
-        }
-        TruingApproximationV1::Unavailable(_) => Interval::Absent,
+        Ok((g, _)) => (
+            Some(g.muzzle_velocity_interval_95),
+            Some(g.ballistic_coefficient_interval_95),
+        ),
+        Err(_) => (None, None),
     }
 }
 
-fn coefficient_interval(a: TruingApproximationV1) -> Interval
-    ensures { says result ≡ coefficient_interval (approximation_says a) }
+// The lines before those of the observations: speed, coefficient, chi-square.
+#[tactic(auto, using(crate::proofs::Laws::head_put), unfolding(crate::specs::Page::speed_line, crate::specs::Page::coefficient_line, crate::specs::Page::chi_square_line))]
+pub fn put_head(w: &mut Writer<'_>, h: UncertaintyTruingReportV1)
+    ensures { Wrote w.old w.new (head_text h) }
 {
-    match a {
-        TruingApproximationV1::Available(g, _) => {
-            let coefficient = g.ballistic_coefficient_interval_95;
-            Interval::Present(coefficient)
-        }
-        TruingApproximationV1::Unavailable(_) => Interval::Absent,
-    }
-}
-
-fn put_speed(out: &mut [u8], at: usize, mv: f64, a: TruingApproximationV1) -> usize
-    ensures { Writes out.old at out.new result (speed_line mv (approximation_says a)) }
-{
-    let e = ends_of(speed_interval(a));
-    let lower = e.lower;
-    let upper = e.upper;
-    put_row(
-        out,
-        at,
-        b"speed               ",
-        Cell::Number(mv),
-        lower,
-        upper,
-    )
-}
-
-fn put_coefficient(out: &mut [u8], at: usize, bc: f64, a: TruingApproximationV1) -> usize
-    ensures { Writes out.old at out.new result (coefficient_line bc (approximation_says a)) }
-{
-    let e = ends_of(coefficient_interval(a));
-    let lower = e.lower;
-    let upper = e.upper;
-    put_row(
-        out,
-        at,
+    let (speed, coefficient) = intervals(h.approximation);
+    put_with_ends(w, b"speed               ", h.map_muzzle_velocity_fps, speed);
+    put_with_ends(
+        w,
         b"coefficient         ",
-        Cell::Number(bc),
-        lower,
-        upper,
-    )
-}
-
-fn put_chi_square(out: &mut [u8], at: usize, x: f64) -> usize
-    ensures { Writes out.old at out.new result (chi_square_line x) }
-{
+        h.map_ballistic_coefficient,
+        coefficient,
+    );
+    let chi_square = Cell::Number(h.diagnostics.chi_square);
     put_row(
-        out,
-        at,
+        w,
         b"chi-square          ",
-        Cell::Number(x),
+        chi_square,
         Cell::Blank,
         Cell::Blank,
-    )
+    );
 }
 
-// The lines before those of the observations.
-pub fn put_head(out: &mut [u8], at: usize, h: UncertaintyTruingReportV1) -> usize
-    ensures { Writes out.old at out.new result (head_text h) }
-{
-    let approximation = h.approximation;
-    let diagnostics = h.diagnostics;
-    let at = put_speed(out, at, h.map_muzzle_velocity_fps, approximation);
-    let at = put_coefficient(out, at, h.map_ballistic_coefficient, approximation);
-    put_chi_square(out, at, diagnostics.chi_square)
+// The line of an observation.
+#[derive(Clone, Copy)]
+pub struct Shot(pub WeightedTruingObservationResultV1);
+
+impl Text for Shot {
+    ghost text = { λ shot. shot_line shot.0 };
+
+    #[tactic(auto, unfolding(crate::specs::Page::shot_line))]
+    fn put(&self, w: &mut Writer<'_>) {
+        put_row(
+            w,
+            b"shot                ",
+            Cell::Number(self.0.range_yd),
+            Cell::Number(self.0.observed_drop),
+            Cell::Number(self.0.predicted_drop),
+        );
+    }
 }
 
-pub fn put_shot(out: &mut [u8], at: usize, o: WeightedTruingObservationResultV1) -> usize
-    ensures { Writes out.old at out.new result (shot_line o) }
-{
-    put_row(
-        out,
-        at,
-        b"shot                ",
-        Cell::Number(o.range_yd),
-        Cell::Number(o.observed_drop),
-        Cell::Number(o.predicted_drop),
-    )
-}
+// The line of a predictive band.
+#[derive(Clone, Copy)]
+pub struct Band(pub TruingPredictiveBandV1);
 
-pub fn put_band(out: &mut [u8], at: usize, b: TruingPredictiveBandV1) -> usize
-    ensures { Writes out.old at out.new result (band_line (band_says b)) }
-{
-    let latent = b.latent_interval_95;
-    let e = ends_of(latent);
-    let lower = e.lower;
-    let upper = e.upper;
-    put_row(
-        out,
-        at,
-        b"distance            ",
-        Cell::Number(b.predicted_drop),
-        lower,
-        upper,
-    )
+impl Text for Band {
+    ghost text = { λ b. band_line (band_says b.0) };
+
+    #[tactic(auto, unfolding(crate::specs::Page::band_line))]
+    fn put(&self, w: &mut Writer<'_>) {
+        put_with_ends(
+            w,
+            b"distance            ",
+            self.0.predicted_drop,
+            self.0.latent_interval_95,
+        );
+    }
 }
 
 // ---- the warnings
 
-// A row has 24 bytes: a phrase, and blanks behind it.
-fn phrases() -> [u8; 240]
-    ensures { result ≡ phrase_rows }
-{
-    *b"\
-    OptimizerDidNotConverge \
-    ObjectiveMeshConvergence\
-    WeakBcSensitivity       \
-    IllConditionedData      \
-    MvPriorDominated        \
-    BcPriorDominated        \
-    GaussianApproximationUna\
-    IntervalCrossesFitBounds\
-    LowEffectiveDegreesOfFre\
-    PredictionOutsideObserve\
-"
-}
-
-// The row of a code's phrase.
-fn row(code: TruingUncertaintyWarningCodeV1) -> usize
-    ensures { result ≡ row_of code }
+// The name of a code, cut to 24 letters, in 24 columns.
+#[tactic(auto, unfolding(crate::specs::Page::phrase_text))]
+fn phrase(code: TruingUncertaintyWarningCodeV1) -> &'static [u8; 24]
+    ensures { result.now ≡ phrase_text code }
 {
     match code {
-        TruingUncertaintyWarningCodeV1::OptimizerDidNotConverge => 0,
-        TruingUncertaintyWarningCodeV1::ObjectiveMeshConvergence => 1,
-        TruingUncertaintyWarningCodeV1::WeakBcSensitivity => 2,
-        TruingUncertaintyWarningCodeV1::IllConditionedData => 3,
-        TruingUncertaintyWarningCodeV1::MvPriorDominated => 4,
-        TruingUncertaintyWarningCodeV1::BcPriorDominated => 5,
-        TruingUncertaintyWarningCodeV1::GaussianApproximationUnavailable => 6,
-        TruingUncertaintyWarningCodeV1::IntervalCrossesFitBounds => 7,
-        TruingUncertaintyWarningCodeV1::LowEffectiveDegreesOfFreedom => 8,
-        TruingUncertaintyWarningCodeV1::PredictionOutsideObservedDomain => 9,
+        TruingUncertaintyWarningCodeV1::OptimizerDidNotConverge => b"OptimizerDidNotConverge ",
+        TruingUncertaintyWarningCodeV1::ObjectiveMeshConvergence => b"ObjectiveMeshConvergence",
+        TruingUncertaintyWarningCodeV1::WeakBcSensitivity => b"WeakBcSensitivity       ",
+        TruingUncertaintyWarningCodeV1::IllConditionedData => b"IllConditionedData      ",
+        TruingUncertaintyWarningCodeV1::MvPriorDominated => b"MvPriorDominated        ",
+        TruingUncertaintyWarningCodeV1::BcPriorDominated => b"BcPriorDominated        ",
+        TruingUncertaintyWarningCodeV1::GaussianApproximationUnavailable => {
+            b"GaussianApproximationUna"
+        }
+        TruingUncertaintyWarningCodeV1::IntervalCrossesFitBounds => b"IntervalCrossesFitBounds",
+        TruingUncertaintyWarningCodeV1::LowEffectiveDegreesOfFreedom => {
+            b"LowEffectiveDegreesOfFre"
+        }
+        TruingUncertaintyWarningCodeV1::PredictionOutsideObservedDomain => {
+            b"PredictionOutsideObserve"
+        }
     }
 }
 
-fn put_phrase(out: &mut [u8], at: usize, code: TruingUncertaintyWarningCodeV1) -> usize
-    ensures { Writes out.old at out.new result (phrase_text code) }
-{
-    let rows = phrases();
-    let from = row(code) * 24;
-    let to = from + 24;
-    report_text::put_bytes(out, at, &rows[from..to])
+// The line of a warning.
+#[derive(Clone, Copy)]
+pub struct Warned(pub TruingUncertaintyWarningCodeV1);
+
+impl Text for Warned {
+    ghost text = { λ warned. warning_line warned.0 };
+
+    #[tactic(auto, using(report_text::proofs::Putting::put_put), unfolding(crate::specs::Page::warning_line))]
+    fn put(&self, w: &mut Writer<'_>) {
+        w.put_bytes(phrase(self.0));
+        w.put_bytes(b"                                        \n");
+    }
 }
 
-// The warning's line, where it stands.
-fn put_warning(
-    out: &mut [u8],
-    at: usize,
-    stands: bool,
-    code: TruingUncertaintyWarningCodeV1,
-) -> usize
-    ensures { Writes out.old at out.new result (cond stands (warning_line code) []) }
-{
-    if stands {
-        let at = put_phrase(out, at, code);
-        return report_text::put_bytes(out, at, b"                                        \n");
+// Those that stand, by their codes.
+#[derive(Clone, Copy)]
+struct Standing(Warnings);
+
+impl Places for Standing {
+    type Item = Warned;
+
+    ghost texts = { λ found i. warning_at warning_line found.0 i };
+
+    fn get(&self, i: usize) -> Option<Warned> {
+        let code = *CODES.get(i)?;
+        self.0.stands(code).then_some(Warned(code))
     }
-    report_text::put_bytes(out, at, b"")
 }
 
 // The lines of those that stand, in the order of the codes.
-pub fn put_warnings(out: &mut [u8], at: usize, w: Warnings) -> usize
-    ensures { Writes out.old at out.new result (joined_lines (map warning_line (codes_of w))) }
+#[tactic(auto, using(report_text::proofs::Listing::standing, crate::proofs::Laws::by_nothing))]
+pub fn put_warnings(w: &mut Writer<'_>, found: Warnings)
+    ensures { Wrote w.old w.new (joined_lines (map warning_line (codes_of found))) }
 {
-    let at = put_warning(
-        out,
-        at,
-        w.optimizer_did_not_converge,
-        TruingUncertaintyWarningCodeV1::OptimizerDidNotConverge,
-    );
-    let at = put_warning(
-        out,
-        at,
-        w.objective_mesh_convergence,
-        TruingUncertaintyWarningCodeV1::ObjectiveMeshConvergence,
-    );
-    let at = put_warning(
-        out,
-        at,
-        w.weak_bc_sensitivity,
-        TruingUncertaintyWarningCodeV1::WeakBcSensitivity,
-    );
-    let at = put_warning(
-        out,
-        at,
-        w.ill_conditioned_data,
-        TruingUncertaintyWarningCodeV1::IllConditionedData,
-    );
-    let at = put_warning(
-        out,
-        at,
-        w.mv_prior_dominated,
-        TruingUncertaintyWarningCodeV1::MvPriorDominated,
-    );
-    let at = put_warning(
-        out,
-        at,
-        w.bc_prior_dominated,
-        TruingUncertaintyWarningCodeV1::BcPriorDominated,
-    );
-    let at = put_warning(
-        out,
-        at,
-        w.gaussian_approximation_unavailable,
-        TruingUncertaintyWarningCodeV1::GaussianApproximationUnavailable,
-    );
-    let at = put_warning(
-        out,
-        at,
-        w.interval_crosses_fit_bounds,
-        TruingUncertaintyWarningCodeV1::IntervalCrossesFitBounds,
-    );
-    let at = put_warning(
-        out,
-        at,
-        w.low_effective_degrees_of_freedom,
-        TruingUncertaintyWarningCodeV1::LowEffectiveDegreesOfFreedom,
-    );
-    put_warning(
-        out,
-        at,
-        w.prediction_outside_observed_domain,
-        TruingUncertaintyWarningCodeV1::PredictionOutsideObservedDomain,
-    )
+    report_text::put_each(w, b"", CODES.len(), &Standing(found));
 }
 
-fn one(stands: bool) -> usize
-    ensures { (result ≡ cond stands 1 0) × (result ≤ 1) }
+fn count(found: Warnings) -> usize
+    ensures { result ≡ count_by (stands_in found) CODES }
 {
-    if stands {
-        return 1;
-    }
-    0
+    CODES.iter().filter(|code| found.stands(**code)).count()
 }
 
 // How many stand.
-pub fn warnings(w: Warnings) -> usize
-    ensures { result ≡ length (codes_of w) }
+#[tactic(auto, using(crate::proofs::Laws::standing_count))]
+pub fn warnings(found: Warnings) -> usize
+    ensures { result ≡ length (codes_of found) }
 {
-    one(w.optimizer_did_not_converge)
-        + one(w.objective_mesh_convergence)
-        + one(w.weak_bc_sensitivity)
-        + one(w.ill_conditioned_data)
-        + one(w.mv_prior_dominated)
-        + one(w.bc_prior_dominated)
-        + one(w.gaussian_approximation_unavailable)
-        + one(w.interval_crosses_fit_bounds)
-        + one(w.low_effective_degrees_of_freedom)
-        + one(w.prediction_outside_observed_domain)
+    count(found)
 }

@@ -2,41 +2,47 @@
 #![tactic(auto)]
 
 ghost use Rattle.std.specs.Prelude.{◌≡◌};
-ghost use Rattle.phases.specs.Phases.{is_at_fit, nothing_asked, objective_asked, five_asked, plan_of, asks_at, stops_at, Waits, Judges, at_fit_at, Evaluates};
+ghost use Rattle.stencil.specs.Stencil.{next_of};
+ghost use Rattle.phases.specs.Phases.{nothing_asked, objective_asked, five_asked, plan_of, asks_at, stops_at, waits_at, judged_at, at_fit_at, Evaluates};
 ghost use Rattle.phases.specs.Phases.{Fives, five_bands_at, Takes};
 
-use definition::{Distances, Evaluation, Point, Step};
+use definition::{Distances, Evaluation, Point, Refusal, RefusalCode, Step};
 use fitting::{Moved, Progress, Stage, Wait};
+use stencil::StencilPoint;
 
 // Which question is open, if one is.
 #[derive(Clone, Copy)]
 pub enum Phase {
     Over,
     Start,
-    Evaluation(Stage, usize),
+    Evaluation(Stage, StencilPoint),
     Trial(Point),
     Look(Point),
-    Bands(usize),
+    Bands(StencilPoint),
     Baseline,
     Ended,
+}
+
+// Where the drops of a reply go: over the rows, by which of the five questions it answers, or to those at the entered point.
+#[derive(Clone, Copy, PartialEq, Eq)]
+pub enum Lays {
+    Row(StencilPoint),
+    Baseline,
 }
 
 // What a phase wants of a reply. Every call reads the phase through it.
 #[derive(Clone, Copy)]
 pub struct Plan {
-    // a question is open; it is about the requested distances, else about the observations
-    pub asks: bool,
-    pub of_requested: bool,
+    // the distances that the open question is about, if one is open
+    pub asks: Option<Distances>,
     // a report stands
     pub stands: bool,
-    // where the drops go: 0 to 4 by the five questions, 5 to the drops at the entered point, 6 nowhere
-    pub row: usize,
-    // an objective is asked for, at this point
-    pub objective: bool,
-    pub point: Point,
-    // it is the last of the five at the observations, and these are at the fit
-    pub last: bool,
-    pub at_fit: bool,
+    // where the drops go
+    pub lays: Option<Lays>,
+    // the point at which an objective is asked for
+    pub objective: Option<Point>,
+    // it is the last of the five at the observations, and this is what the evaluation is wanted for
+    pub evaluates: Option<Stage>,
 }
 
 // What a taken reply leads to: the numbers of the fit, which question is open then, and what is said.
@@ -49,18 +55,15 @@ pub struct Next {
 
 // ---- what a phase wants
 
-fn nothing_asked(stands: bool, entered: Point) -> Plan
-    ensures { result ≡ nothing_asked stands entered }
+fn nothing_asked(stands: bool) -> Plan
+    ensures { result ≡ nothing_asked stands }
 {
     Plan {
-        asks: false,
-        of_requested: false,
+        asks: None,
         stands,
-        row: 6,
-        objective: false,
-        point: entered,
-        last: false,
-        at_fit: false,
+        lays: None,
+        objective: None,
+        evaluates: None,
     }
 }
 
@@ -68,42 +71,27 @@ fn objective_asked(q: Point) -> Plan
     ensures { result ≡ objective_asked q }
 {
     Plan {
-        asks: true,
-        of_requested: false,
+        asks: Some(Distances::Shots),
         stands: false,
-        row: 6,
-        objective: true,
-        point: q,
-        last: false,
-        at_fit: false,
+        lays: None,
+        objective: Some(q),
+        evaluates: None,
     }
 }
 
-fn five_asked(of_requested: bool, k: usize, at_fit: bool, entered: Point) -> Plan
-    ensures { result ≡ five_asked of_requested k at_fit entered }
+fn five_asked(list: Distances, k: StencilPoint, stage: Option<Stage>) -> Plan
+    ensures { result ≡ five_asked list k stage }
 {
-    let row = stencil::five_row(k);
-    let last = !of_requested & (4 <= k);
+    let evaluates = match k.next() {
+        Some(_) => None,
+        None => stage,
+    };
     Plan {
-        asks: true,
-        of_requested,
+        asks: Some(list),
         stands: false,
-        row,
-        objective: false,
-        point: entered,
-        last,
-        at_fit,
-    }
-}
-
-fn is_at_fit(stage: Stage) -> bool
-    ensures { result ≡ is_at_fit stage }
-{
-    match stage {
-        Stage::Iteration => false,
-        Stage::Final => false,
-        Stage::Mesh => false,
-        Stage::AtFit => true,
+        lays: Some(Lays::Row(k)),
+        objective: None,
+        evaluates,
     }
 }
 
@@ -111,23 +99,20 @@ pub fn plan_of(phase: Phase, entered: Point) -> Plan
     ensures { result ≡ plan_of phase entered }
 {
     match phase {
-        Phase::Over => nothing_asked(false, entered),
+        Phase::Over => nothing_asked(false),
         Phase::Start => objective_asked(entered),
-        Phase::Evaluation(stage, k) => five_asked(false, k, is_at_fit(stage), entered),
+        Phase::Evaluation(stage, k) => five_asked(Distances::Shots, k, Some(stage)),
         Phase::Trial(q) => objective_asked(q),
         Phase::Look(c) => objective_asked(c),
-        Phase::Bands(k) => five_asked(true, k, false, entered),
+        Phase::Bands(k) => five_asked(Distances::Requested, k, None),
         Phase::Baseline => Plan {
-            asks: true,
-            of_requested: false,
+            asks: Some(Distances::Shots),
             stands: false,
-            row: 5,
-            objective: false,
-            point: entered,
-            last: false,
-            at_fit: false,
+            lays: Some(Lays::Baseline),
+            objective: None,
+            evaluates: None,
         },
-        Phase::Ended => nothing_asked(true, entered),
+        Phase::Ended => nothing_asked(true),
     }
 }
 
@@ -145,26 +130,25 @@ fn asks(progress: Progress, phase: Phase, p: Point, list: Distances) -> Next
 }
 
 // The run ends with a refusal.
-fn stops(progress: Progress, number: usize, position: usize) -> Next
-    ensures { result ≡ stops_at progress number position }
+fn stops(progress: Progress, code: RefusalCode, position: usize) -> Next
+    ensures { result ≡ stops_at progress code position }
 {
     Next {
         progress,
         phase: Phase::Over,
-        step: Step::Refused(number, position),
+        step: Step::Refused(Refusal { code, position }),
     }
 }
 
 // The fit has come to this, and waits for its next question.
 fn waits(moved: Moved) -> Next
-    ensures { Waits moved result }
+    ensures { result ≡ waits_at moved.progress moved.wait }
 {
     let progress = moved.progress;
-    let wait = moved.wait;
-    let p = progress.point;
-    match wait {
+    match moved.wait {
         Wait::Evaluation(stage) => {
-            asks(progress, Phase::Evaluation(stage, 0), p, Distances::Shots)
+            let phase = Phase::Evaluation(stage, StencilPoint::Nominal);
+            asks(progress, phase, progress.point, Distances::Shots)
         }
         Wait::Trial(q) => asks(progress, Phase::Trial(q), q, Distances::Shots),
         Wait::Look(c) => asks(progress, Phase::Look(c), c, Distances::Shots),
@@ -173,30 +157,32 @@ fn waits(moved: Moved) -> Next
 
 // An objective is judged, its first gap before its sum; where it is there, the fit waits.
 fn judged(g: Progress, found: usize, sum: f64, moved: Moved) -> Next
-    ensures { Judges found sum moved result }
+    ensures { result ≡ judged_at g found sum moved }
 {
     if found != 0 {
-        return stops(g, 11, found);
+        return stops(g, RefusalCode::ObservationMissing, found);
     }
     if !numeric::is_finite(sum) {
-        return stops(g, 12, 0);
+        return stops(g, RefusalCode::ObjectiveNotFinite, 0);
     }
     waits(moved)
 }
 
 // The evaluation at the fit is there: it is kept, and the requested distances come next, or, with none, the baseline.
+#[tactic(auto, unfolding(crate::specs::Phases::at_fit_at))]
 fn at_fit(g: Progress, e: Evaluation, requested: bool, entered: Point) -> Next
     ensures { result ≡ at_fit_at g e requested entered }
 {
-    let p = g.point;
     let progress = Progress { evaluation: e, ..g };
     if requested {
-        return asks(progress, Phase::Bands(0), p, Distances::Requested);
+        let phase = Phase::Bands(StencilPoint::Nominal);
+        return asks(progress, phase, g.point, Distances::Requested);
     }
     asks(progress, Phase::Baseline, entered, Distances::Shots)
 }
 
 // The evaluation is there.
+#[tactic(auto, using(crate::proofs::Laws::rows_go))]
 fn evaluated(g: Progress, e: Evaluation, stage: Stage, requested: bool, entered: Point) -> Next
     ensures { Evaluates stage g e requested entered result }
 {
@@ -208,40 +194,42 @@ fn evaluated(g: Progress, e: Evaluation, stage: Stage, requested: bool, entered:
     }
 }
 
-// The k-th reply to the five questions at the observations is there. A gap is judged after the fifth.
+// A reply to one of the five questions at the observations is there. A gap is judged after the fifth.
 fn five(
     g: Progress,
     e: Evaluation,
     stage: Stage,
-    k: usize,
+    k: StencilPoint,
     gap: usize,
     requested: bool,
     entered: Point,
 ) -> Next
     ensures { Fives stage k g e gap requested entered result }
 {
-    let p = g.point;
-    if k < 4 {
-        let q = stencil::stencil_point(p, k + 1);
-        return asks(g, Phase::Evaluation(stage, k + 1), q, Distances::Shots);
+    if let Some(q) = k.next() {
+        return asks(
+            g,
+            Phase::Evaluation(stage, q),
+            q.at(g.point),
+            Distances::Shots,
+        );
     }
     if gap != 0 {
-        return stops(g, 11, gap);
+        return stops(g, RefusalCode::ObservationMissing, gap);
     }
     evaluated(g, e, stage, requested, entered)
 }
 
-// The k-th reply to the five questions at the requested distances is there.
-fn five_bands(g: Progress, k: usize, gap: usize, entered: Point) -> Next
-    ensures { result ≡ five_bands_at k g gap entered }
+// A reply to one of the five questions at the requested distances is there.
+#[tactic(auto, unfolding(crate::specs::Phases::five_bands_at))]
+fn five_bands(g: Progress, k: StencilPoint, gap: usize, entered: Point) -> Next
+    ensures { result ≡ five_bands_at (next_of k) g gap entered }
 {
-    let p = g.point;
-    if k < 4 {
-        let q = stencil::stencil_point(p, k + 1);
-        return asks(g, Phase::Bands(k + 1), q, Distances::Requested);
+    if let Some(q) = k.next() {
+        return asks(g, Phase::Bands(q), q.at(g.point), Distances::Requested);
     }
     if gap != 0 {
-        return stops(g, 13, gap);
+        return stops(g, RefusalCode::DistanceMissing, gap);
     }
     asks(g, Phase::Baseline, entered, Distances::Shots)
 }
@@ -260,7 +248,7 @@ pub fn advance(
     ensures { Takes phase g e found sum gap requested entered result }
 {
     match phase {
-        Phase::Over => stops(g, 8, 0),
+        Phase::Over => stops(g, RefusalCode::NoQuestionOpen, 0),
         Phase::Start => judged(g, found, sum, fitting::start(entered, sum)),
         Phase::Evaluation(stage, k) => five(g, e, stage, k, gap, requested, entered),
         Phase::Trial(q) => judged(g, found, sum, fitting::after_trial(g, q, sum)),
@@ -271,6 +259,6 @@ pub fn advance(
             phase: Phase::Ended,
             step: Step::Report,
         },
-        Phase::Ended => stops(g, 8, 0),
+        Phase::Ended => stops(g, RefusalCode::NoQuestionOpen, 0),
     }
 }

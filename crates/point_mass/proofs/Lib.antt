@@ -1,2 +1,3 @@
 pub mod Solver
 pub mod Figures
+pub mod Turns

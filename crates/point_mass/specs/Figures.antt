@@ -1,9 +1,8 @@
 -- Figures of the demonstration solver. Theorem `figures`, in proofs/Figures.antt, by computation.
-use Rattle.std.specs.Prelude.{◌≡◌, true, false, Float}
+use Rattle.std.specs.Prelude.{◌≡◌, true, false, Float, None, Some}
 use Rattle.std.specs.Float.{nan, binary64}
 use Rattle.std.specs.Float.Ieee.{of_bits}
 use Rattle.numeric.specs.declared.DropUnit.TheVariants.{In, Mil}
-use Rattle.definition.specs.Run.{missing, drop}
 use Rattle.definition.specs.declared.Point.{Point}
 use Rattle.point_mass.specs.Flight.{is_sane, speed_of, entry_at}
 
@@ -28,7 +27,7 @@ Figures =
     × (is_sane (point (of_bits binary64 0x40b7_7000_0000_0001) (of_bits binary64 0x4008_0000_0000_0000)) ≡ false)
     × (is_sane (point (of_bits binary64 0x40a5_7c00_0000_0000) nan) ≡ false)
     × (speed_of (of_bits binary64 0x409f_4000_0000_0000) (of_bits binary64 0x4059_0000_0000_0000) ≡ of_bits binary64 0x409f_4a00_0000_0000)
-    × (entry_at example In (of_bits binary64 0x4008_0000_0000_0000) ≡ drop (of_bits binary64 0x3f62_4e11_0690_d5b2))
-    × (entry_at example Mil (of_bits binary64 0x4008_0000_0000_0000) ≡ drop (of_bits binary64 0x3f95_2fb0_266a_00d1))
-    × (entry_at example In (of_bits binary64 0) ≡ missing)
-    × (entry_at slow In (of_bits binary64 0x3fd0_0000_0000_0000) ≡ drop (of_bits binary64 0x3f86_7d6f_0e2c_6c1b))
+    × (entry_at example In (of_bits binary64 0x4008_0000_0000_0000) ≡ Some (of_bits binary64 0x3f62_4e11_0690_d5b2))
+    × (entry_at example Mil (of_bits binary64 0x4008_0000_0000_0000) ≡ Some (of_bits binary64 0x3f95_2fb0_266a_00d1))
+    × (entry_at example In (of_bits binary64 0) ≡ None)
+    × (entry_at slow In (of_bits binary64 0x3fd0_0000_0000_0000) ≡ Some (of_bits binary64 0x3f86_7d6f_0e2c_6c1b))

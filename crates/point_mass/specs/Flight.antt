@@ -1,19 +1,16 @@
 -- The demonstration solver, as a function of a point, a unit and one distance. Each operation rounds once; constants stand by their bits, with their decimals
 -- beside them.
-use Rattle.std.specs.Prelude.{ℕ, zero, suc, Bool, cond, ◌&&◌, ◌≡◌, List, map, length, take, Float}
+use Rattle.std.specs.Prelude.{ℕ, zero, suc, Bool, cond, ◌&&◌, ◌≡◌, List, map, Float, None, Some}
 use Rattle.std.specs.Float.{binary64}
 use Rattle.std.specs.Float.Ieee.{of_bits, lt, le}
-use Rattle.numeric.specs.Numeric.{zero64}
+use Rattle.numeric.specs.Numeric.{zero64, within_of}
 use Rattle.numeric.specs.Drop.{express_of}
 use Rattle.numeric.specs.declared.DropUnit.{DropUnit}
 use Rattle.definition.specs.Constants.{◌⊕◌, ◌⊖◌, ◌⊗◌, ◌⊘◌}
 use Rattle.definition.specs.Run as run
-use Rattle.definition.specs.Whole.{within_of}
 use Rattle.definition.specs.declared.Point.{Point}
-use Rattle.slices.specs.Slices.{shortest_of, laid_over}
+use Rattle.slices.specs.Slices.{laid_over}
 use Rattle.point_mass.specs.declared.Flight.{Flight}
-use Rattle.point_mass.specs.declared.Entry.{Entry}
-use Rattle.point_mass.specs.declared.Entry.TheVariants.{Missing, Drop}
 
 -- ---- the points that are not refused
 
@@ -73,18 +70,18 @@ on_line s t x = s.y ⊕ (x ⊖ s.x) ⊘ (t.x ⊖ s.x) ⊗ (t.y ⊖ s.y)
 
 -- how far down the slug is when it has come x feet: missing where the steps are used up, or where it has become slower than 50 fps
 unfoldable pub flight : ℕ → Float → Float → Flight → run.Entry
-flight zero k x s = run.missing
+flight zero k x s = None
 flight (suc n) k x s =
     let t = step_of k s in
-    cond (lt s.vx (of_bits binary64 0x4049_0000_0000_0000)) run.missing (cond (le x t.x) (run.drop (on_line s t x)) (flight n k x t))
+    cond (lt s.vx (of_bits binary64 0x4049_0000_0000_0000)) None (cond (le x t.x) (Some (on_line s t x)) (flight n k x t))
 
 -- ---- the answer
 
 -- from feet to metres (0.3048), the distance from yards to metres (0.9144), and on to the unit
 unfoldable pub in_unit : DropUnit → Float → run.Entry → run.Entry
-in_unit unit yards run.missing = run.missing
-in_unit unit yards (run.drop y) =
-    run.drop (express_of unit (y ⊗ of_bits binary64 0x3fd3_81d7_dbf4_87fd) (yards ⊗ of_bits binary64 0x3fed_42c3_c9ee_cbfb))
+in_unit unit yards None = None
+in_unit unit yards (Some y) =
+    Some (express_of unit (y ⊗ of_bits binary64 0x3fd3_81d7_dbf4_87fd) (yards ⊗ of_bits binary64 0x3fed_42c3_c9ee_cbfb))
 
 -- at the muzzle, with all speed forward
 abbrev pub muzzle : Float → Flight
@@ -95,21 +92,11 @@ unfoldable pub entry_at : Point → DropUnit → Float → run.Entry
 entry_at p unit yards =
     cond (is_sane p && lt zero64 yards)
     (in_unit unit yards (flight 4096 (of_bits binary64 0x3f2b_55cf_72f7_f7d1 ⊘ p.bc) (yards ⊗ of_bits binary64 0x4008_0000_0000_0000) (muzzle p.mv)))
-    run.missing
-
--- what the code's entry stands for
-abbrev pub says : Entry → run.Entry
-says Missing = run.missing
-says (Drop y) = run.drop y
-
--- the distances that there is room for: up to the end of the shortest of the three lists
-abbrev pub reached : List Float → List Float → List Bool → List Float
-reached yards drops flags = take (shortest_of (length yards) (length drops) (length flags)) yards
+    None
 
 abbrev pub entries_at : Point → DropUnit → List Float → List run.Entry
 entries_at p unit yards = map (entry_at p unit) yards
 
--- a reply laid over the first places of two lists, drops and flags; the places behind are as they were
-pub record Filled (p : Point) (unit : DropUnit) (yards drops₀ : List Float) (flags₀ : List Bool) (drops₁ : List Float) (flags₁ : List Bool) : Type 0 where
-  pub drops : drops₁ ≡ laid_over (map run.drop_or0 (entries_at p unit (reached yards drops₀ flags₀))) drops₀
-  pub flags : flags₁ ≡ laid_over (map run.is_missing (entries_at p unit (reached yards drops₀ flags₀))) flags₀
+-- the entries laid over the first places of a list; the places behind are as they were
+pub record Filled (p : Point) (unit : DropUnit) (yards : List Float) (entries₀ entries₁ : List run.Entry) : Type 0 where
+  pub entries : entries₁ ≡ laid_over (entries_at p unit yards) entries₀

@@ -1,10 +1,9 @@
 -- The demonstration solver as a solver of the third demand: its refusal depends on the point alone, its entry at a distance on the point and that distance
 -- alone. The theorem stands in proofs/Solver.antt.
-use Rattle.std.specs.Prelude.{◌≤◌, ◌≡◌, Bool, true, not, List, length, take, Float}
+use Rattle.std.specs.Prelude.{◌≤◌, ◌≡◌, true, not, List, length, take, Float}
 use Rattle.numeric.specs.declared.DropUnit.{DropUnit}
-use Rattle.definition.specs.Run.{entries}
+use Rattle.definition.specs.Run.{Entry, entries}
 use Rattle.definition.specs.declared.Point.{Point}
-use Rattle.definition.specs.Session.{entries_of}
 use Rattle.fresh_outcome.specs.Solver.{Solver, reply_at}
 use Rattle.point_mass.specs.Flight.{is_sane, entry_at, Filled}
 
@@ -14,6 +13,6 @@ solver unit = record { refuses = λ p. not (is_sane p); drops = λ p yards. entr
 -- Theorem `filled_reply`: at a point that is not refused, with room for every distance, what `fill` leaves in the first places is the solver's reply.
 abbrev pub FilledReply : Type 0
 FilledReply =
-    (p : Point) (unit : DropUnit) (yards drops₀ : List Float) (flags₀ : List Bool) (drops₁ : List Float) (flags₁ : List Bool)
-    → is_sane p ≡ true → length yards ≤ length drops₀ → length yards ≤ length flags₀ → Filled p unit yards drops₀ flags₀ drops₁ flags₁
-    → entries (entries_of (take (length yards) drops₁) (take (length yards) flags₁)) ≡ reply_at (solver unit) p yards
+    (p : Point) (unit : DropUnit) (yards : List Float) (entries₀ entries₁ : List Entry)
+    → is_sane p ≡ true → length yards ≤ length entries₀ → Filled p unit yards entries₀ entries₁
+    → entries (take (length yards) entries₁) ≡ reply_at (solver unit) p yards

@@ -3,9 +3,7 @@
 #![tactic(auto)]
 
 ghost use Rattle.std.specs.Prelude.{◌≡◌};
-ghost use Rattle.definition.specs.Run.{is_missing, drop_or0};
-ghost use Rattle.definition.specs.Whole.{within_of};
-ghost use Rattle.point_mass.specs.Flight.{is_sane, drag_of, step_of, on_line, flight, in_unit, says, entry_at, Filled};
+ghost use Rattle.point_mass.specs.Flight.{is_sane, drag_of, step_of, on_line, flight, in_unit, entry_at, Filled};
 
 use definition::Point;
 use numeric::DropUnit;
@@ -51,27 +49,17 @@ pub struct Flight {
     vy: f64,
 }
 
-// What the solver says at one distance: that the slug does not get there, or its drop.
-#[derive(Clone, Copy)]
-pub enum Entry {
-    Missing,
-    Drop(f64),
-}
-
-fn is_within(lower: f64, upper: f64, x: f64) -> bool
-    ensures { result ≡ within_of lower upper x }
-{
-    numeric::is_finite(x) & ((lower <= x) & (x <= upper))
-}
-
 // A point that is not sane is refused.
+#[tactic(auto, unfolding(crate::specs::Flight::is_sane))]
 pub fn is_sane(p: Point) -> bool
     ensures { result ≡ is_sane p }
 {
-    is_within(LEAST_SPEED, MOST_SPEED, p.mv) & is_within(LEAST_COEFFICIENT, MOST_COEFFICIENT, p.bc)
+    numeric::is_within(LEAST_SPEED, MOST_SPEED, p.mv)
+        & numeric::is_within(LEAST_COEFFICIENT, MOST_COEFFICIENT, p.bc)
 }
 
 // The drag coefficient at a speed, with no jumps, in the manner of the G1 projectile: it rises near the speed of sound and falls slowly beyond.
+#[tactic(auto, unfolding(crate::specs::Flight::drag_of))]
 fn drag(speed: f64) -> f64
     ensures { result ≡ drag_of speed }
 {
@@ -87,6 +75,7 @@ fn drag(speed: f64) -> f64
 // One step: the speeds by the forces at its start, the place by the mean of the speeds before and after. `k` is the retardation's factor over the coefficient.
 // The
 // whole speed is the flat-fire expansion of the velocity's length, which needs no root.
+#[tactic(auto, unfolding(crate::specs::Flight::step_of))]
 fn step(k: f64, s: Flight) -> Flight
     ensures { result ≡ step_of k s }
 {
@@ -103,6 +92,7 @@ fn step(k: f64, s: Flight) -> Flight
 }
 
 // How far down it is at so many feet forward, on the straight line between the ends of a step.
+#[tactic(auto, unfolding(crate::specs::Flight::on_line))]
 fn on_line(s: Flight, t: Flight, x: f64) -> f64
     ensures { result ≡ on_line s t x }
 {
@@ -110,89 +100,57 @@ fn on_line(s: Flight, t: Flight, x: f64) -> f64
 }
 
 // How far down the slug is when it has come so many feet, if it does.
-fn fly(k: f64, x: f64, start: Flight) -> Entry
-    ensures { says result ≡ flight 4096 k x start }
+#[tactic(auto, unfolding(crate::specs::Flight::flight))]
+fn fly(k: f64, x: f64, start: Flight) -> Option<f64>
+    ensures { result ≡ flight 4096 k x start }
 {
     let mut s = start;
-    let mut left = STEPS;
-    while left > 0 {
+    for _ in 0..STEPS {
         if s.vx < SLOWEST {
-            return Entry::Missing;
+            return None;
         }
         let t = step(k, s);
         if t.x >= x {
-            return Entry::Drop(on_line(s, t, x));
+            return Some(on_line(s, t, x));
         }
         s = t;
-        left -= 1;
     }
-    Entry::Missing
+    None
 }
 
 // What is down so many feet at so many yards, in a unit.
-fn in_unit(unit: DropUnit, yards: f64, found: Entry) -> Entry
-    ensures { says result ≡ in_unit unit yards (says found) }
+#[tactic(auto, unfolding(crate::specs::Flight::in_unit))]
+fn in_unit(unit: DropUnit, yards: f64, feet: Option<f64>) -> Option<f64>
+    ensures { result ≡ in_unit unit yards feet }
 {
-    match found {
-        Entry::Missing => Entry::Missing,
-        Entry::Drop(y) => Entry::Drop(unit.express_drop_m(
-            y * METRES_PER_FOOT,
-            yards * METRES_PER_YARD,
-        )),
-    }
+    let drop_m = feet? * METRES_PER_FOOT;
+    Some(unit.express_drop_m(drop_m, yards * METRES_PER_YARD))
 }
 
 // The drop at a distance in yards; missing too at a point that is refused, and at a distance that is not above 0.
-fn drop_at(p: Point, unit: DropUnit, yards: f64) -> Entry
-    ensures { says result ≡ entry_at p unit yards }
+#[tactic(auto, unfolding(crate::specs::Flight::entry_at))]
+fn drop_at(p: Point, unit: DropUnit, yards: f64) -> Option<f64>
+    ensures { result ≡ entry_at p unit yards }
 {
-    if is_sane(p) & (yards > 0.0) {
-        let start = Flight {
-            x: 0.0,
-            y: 0.0,
-            vx: p.mv,
-            vy: 0.0,
-        };
-        let found = fly(RETARDATION / p.bc, yards * FEET_PER_YARD, start);
-        return in_unit(unit, yards, found);
+    if !(is_sane(p) & (yards > 0.0)) {
+        return None;
     }
-    Entry::Missing
+    let start = Flight {
+        x: 0.0,
+        y: 0.0,
+        vx: p.mv,
+        vy: 0.0,
+    };
+    let found = fly(RETARDATION / p.bc, yards * FEET_PER_YARD, start);
+    in_unit(unit, yards, found)
 }
 
-fn is_missing(e: Entry) -> bool
-    ensures { result ≡ is_missing (says e) }
+// A flight for each distance in yards, as far as there is room: its drop, or none where it is missing.
+pub fn fill(p: Point, unit: DropUnit, distances: &[f64], entries: &mut [Option<f64>])
+    ensures { Filled p unit distances.now entries.old entries.new }
 {
-    match e {
-        Entry::Missing => true,
-        Entry::Drop(_) => false,
-    }
-}
-
-fn drop_or_0(e: Entry) -> f64
-    ensures { result ≡ drop_or0 (says e) }
-{
-    match e {
-        Entry::Missing => 0.0,
-        Entry::Drop(drop) => drop,
-    }
-}
-
-// A flight for each distance in yards, as far as there is room in both lists: the drop, or 0 with the flag of a missing one set.
-pub fn fill<'a>(
-    p: Point,
-    unit: DropUnit,
-    distances: &'a [f64],
-    drops: &'a mut [f64],
-    missing: &'a mut [bool],
-)
-    ensures { Filled p unit distances.now drops.old missing.old drops.new missing.new }
-{
-    let n = slices::shortest(distances.len(), drops.len(), missing.len());
-    let mut i = 0usize;
-    while i < n {
-        let found = drop_at(p, unit, distances[i]);
-        drops[i] = drop_or_0(found);
-        missing[i] = is_missing(found);
-        i += 1;
+    let n = distances.len().min(entries.len());
+    for i in 0..n {
+        entries[i] = drop_at(p, unit, distances[i]);
     }
 }

@@ -1,21 +1,18 @@
 -- What a host reads of a report: its head, and the places of its lists.
-use Rattle.std.specs.Prelude.{ℕ, ◌≤◌, ◌≡◌, List, [], length}
-use Rattle.std.proofs.Math.Option.{Option, none, some}
+use Rattle.std.specs.Prelude.{ℕ, ◌≤◌, ◌≡◌, List, [], length, Option, None, Some, slice_get, option_map}
 use Rattle.definition.specs.Summary.{Report, report_of}
 use Rattle.definition.specs.Summary as summary
 use Rattle.definition.specs.Session.{State, asking, standing, over}
-use Rattle.report.specs.Places.{nth, result_says, band_at_says}
+use Rattle.bands.specs.declared.TruingPredictiveBandV1.{TruingPredictiveBandV1}
+use Rattle.bands.specs.Bands.{band_says}
+use Rattle.definition.specs.declared.WeightedTruingObservationResultV1.{WeightedTruingObservationResultV1}
 use Rattle.report.specs.Report.{Results, seen_of}
 use Rattle.report.specs.declared.UncertaintyTruingReportV1.{UncertaintyTruingReportV1}
-use Rattle.report.specs.declared.ResultAt.{ResultAt}
-use Rattle.report.specs.declared.BandAt.{BandAt}
-use Rattle.report.specs.declared.Shown.{Shown}
-use Rattle.report.specs.declared.Shown.TheVariants.{Absent, Given}
 
 -- the observation results of a report's baseline
 abbrev pub of_baseline : Option summary.Baseline → Results
-of_baseline none = []
-of_baseline (some b) = b.observations
+of_baseline None = []
+of_baseline (Some b) = b.observations
 
 -- the head is that of this report: with the three lists it is the report, and its counts are those of the lists, the first also that of the baseline's list
 pub record HeadOf (h : UncertaintyTruingReportV1) (p : Report) : Type 0 where
@@ -24,16 +21,16 @@ pub record HeadOf (h : UncertaintyTruingReportV1) (p : Report) : Type 0 where
   pub baseline_results : length (of_baseline p.baseline) ≤ h.observations
   pub bands : h.predictive_bands ≡ length p.bands
 
-abbrev pub Shows : Shown → Option Report → Type 0
-Shows Absent none = Unit {0}
-Shows Absent (some p) = ⊥
-Shows (Given h) none = ⊥
-Shows (Given h) (some p) = HeadOf h p
+abbrev pub Shows : Option UncertaintyTruingReportV1 → Option Report → Type 0
+Shows None None = Unit {0}
+Shows None (Some p) = ⊥
+Shows (Some h) None = ⊥
+Shows (Some h) (Some p) = HeadOf h p
 
 -- a place of one of its lists, counted from 0; where no report stands there is none
 abbrev pub place_in : {A : Type 0} → (Report → List A) → ℕ → Option Report → Option A
-place_in f i none = none
-place_in f i (some p) = nth i (f p)
+place_in f i None = None
+place_in f i (Some p) = slice_get (f p) i
 
 abbrev pub baseline_results : Report → Results
 baseline_results p = of_baseline p.baseline
@@ -42,18 +39,18 @@ baseline_results p = of_baseline p.baseline
 
 -- the report that stands: none while a question is open, and none where the run was refused
 abbrev pub report_in : State → Option Report
-report_in (standing c) = some (report_of c)
-report_in (asking kept t) = none
-report_in over = none
+report_in (standing c) = Some (report_of c)
+report_in (asking kept t) = None
+report_in over = None
 
-pub record ReportRead (x : State) (r : Shown) : Type 0 where
+pub record ReportRead (x : State) (r : Option UncertaintyTruingReportV1) : Type 0 where
   pub is : Shows r (report_in x)
 
-pub record ResultRead (x : State) (i : ℕ) (r : ResultAt) : Type 0 where
-  pub is : result_says r ≡ place_in (λ p. p.observations) i (report_in x)
+pub record ResultRead (x : State) (i : ℕ) (r : Option WeightedTruingObservationResultV1) : Type 0 where
+  pub is : r ≡ place_in (λ p. p.observations) i (report_in x)
 
-pub record BaselineResultRead (x : State) (i : ℕ) (r : ResultAt) : Type 0 where
-  pub is : result_says r ≡ place_in baseline_results i (report_in x)
+pub record BaselineResultRead (x : State) (i : ℕ) (r : Option WeightedTruingObservationResultV1) : Type 0 where
+  pub is : r ≡ place_in baseline_results i (report_in x)
 
-pub record BandRead (x : State) (i : ℕ) (r : BandAt) : Type 0 where
-  pub is : band_at_says r ≡ place_in (λ p. p.bands) i (report_in x)
+pub record BandRead (x : State) (i : ℕ) (r : Option TruingPredictiveBandV1) : Type 0 where
+  pub is : option_map band_says r ≡ place_in (λ p. p.bands) i (report_in x)

@@ -1,6 +1,5 @@
 -- What a report of the code says: its head and its three lists, put together.
-use Rattle.std.specs.Prelude.{ℕ, ◌≡◌, Bool, List, length}
-use Rattle.std.proofs.Math.Option.{Option, none, some}
+use Rattle.std.specs.Prelude.{ℕ, ◌≡◌, Bool, List, length, Option, None, Some}
 use Rattle.definition.specs.Lists.{any, zip_with}
 use Rattle.definition.specs.Likelihood.{rows_of}
 use Rattle.definition.specs.Summary as summary
@@ -12,18 +11,17 @@ use Rattle.fitting.specs.Meaning.{fit_of}
 use Rattle.fitting.specs.declared.Progress.{Progress}
 use Rattle.summary.specs.Summary.{diagnostics_says}
 use Rattle.warnings.specs.Warnings.{codes_of}
-use Rattle.report.specs.declared.Baseline.{Baseline}
-use Rattle.report.specs.declared.Baseline.TheVariants.{Absent, Given}
+use Rattle.report.specs.declared.TruingBaselineV1.{TruingBaselineV1}
 use Rattle.report.specs.declared.UncertaintyTruingReportV1.{UncertaintyTruingReportV1}
 
 abbrev pub Results : Type 0
 Results = List WeightedTruingObservationResultV1
 
 -- a baseline with its observation results, which are not read where there is none
-abbrev pub baseline_says : Baseline → Results → Option summary.Baseline
-baseline_says Absent results = none
-baseline_says (Given b) results =
-    some (record { entered = record { mv = b.muzzle_velocity_fps; bc = b.ballistic_coefficient }; chi_square = b.chi_square; observations = results })
+abbrev pub baseline_says : Option TruingBaselineV1 → Results → Option summary.Baseline
+baseline_says None results = None
+baseline_says (Some b) results =
+    Some (record { entered = record { mv = b.muzzle_velocity_fps; bc = b.ballistic_coefficient }; chi_square = b.chi_square; observations = results })
 
 -- a report from its head, the observation results, those of the baseline, and the bands
 abbrev pub seen_of : UncertaintyTruingReportV1 → Results → Results → List Band → Report
@@ -42,7 +40,7 @@ seen_of r results entered bands = record {
 }
 
 -- what a head is made of are the parts of this finished run, the baseline with these results
-pub record PartsOf (c : Finished) (n wanted : ℕ) (g : Progress) (priors : TruingPriorsV1) (baseline : Baseline) (entered : Results)
+pub record PartsOf (c : Finished) (n wanted : ℕ) (g : Progress) (priors : TruingPriorsV1) (baseline : Option TruingBaselineV1) (entered : Results)
     (outside : Bool) : Type 0 where
   pub has_observations : length c.measured.observations ≡ n
   pub has_requested : length c.requested ≡ wanted
@@ -53,7 +51,7 @@ pub record PartsOf (c : Finished) (n wanted : ℕ) (g : Progress) (priors : Trui
   pub has_outside : any (is_outside c.measured.observations) c.requested ≡ outside
 
 -- the head, with the three lists, is the report of every finished run that has these parts; the two counts are those of the lists
-pub record Shows (r : UncertaintyTruingReportV1) (n wanted : ℕ) (g : Progress) (priors : TruingPriorsV1) (baseline : Baseline) (outside : Bool) : Type 0 where
+pub record Shows (r : UncertaintyTruingReportV1) (n wanted : ℕ) (g : Progress) (priors : TruingPriorsV1) (baseline : Option TruingBaselineV1) (outside : Bool) : Type 0 where
   pub whole : (c : Finished) (entered : Results) → PartsOf c n wanted g priors baseline entered outside
       → report_of c ≡ seen_of r (results_of c.measured.observations c.predicted) entered
       (zip_with (band_of (approximation_says r.approximation)) c.requested (rows_of c.band_rows))

@@ -1,19 +1,22 @@
 // The report of a finished fit: its head, and each place of its lists.
 #![tactic(auto)]
 
-ghost use Rattle.std.specs.Prelude.{◌≡◌, ◌-◌};
-ghost use Rattle.definition.specs.Lists.{zip_with, zip_with3};
-ghost use Rattle.definition.specs.Likelihood.{row_of};
+ghost use Rattle.std.specs.Prelude.{◌≡◌, ◌-◌, slice_get, option_map};
+ghost use Rattle.definition.specs.Lists.{zip_with};
 ghost use Rattle.definition.specs.Summary.{results_of, band_of};
-ghost use Rattle.definition.specs.Meaning.{number_of, approximation_says, observations_of};
-ghost use Rattle.report.specs.Places.{nth, sigma_of, requested_at, result_says, row_says, band_at_says, any_outside_of};
+ghost use Rattle.definition.specs.Meaning.{approximation_says};
+ghost use Rattle.likelihood.specs.Columns.{observations_in, rows_in};
+ghost use Rattle.bands.specs.Bands.{band_says};
+ghost use Rattle.report.specs.Places.{any_outside_of};
 ghost use Rattle.report.specs.Report.{Shows};
 
 use bands::TruingPredictiveBandV1;
 use definition::{
-    Number, Row, TruingApproximationV1, TruingPriorsV1, WeightedTruingObservationResultV1,
+    TruingApproximationV1, TruingPredictionRequestV1, TruingPriorsV1,
+    WeightedTruingObservationResultV1,
 };
 use fitting::{MAX_ITERATIONS, Progress};
+use likelihood::{Columns, RowColumns};
 use summary::TruingUncertaintyDiagnosticsV1;
 use warnings::Warnings;
 
@@ -23,12 +26,6 @@ pub struct TruingBaselineV1 {
     pub muzzle_velocity_fps: f64,
     pub ballistic_coefficient: f64,
     pub chi_square: f64,
-}
-
-#[derive(Clone, Copy)]
-pub enum Baseline {
-    Absent,
-    Given(TruingBaselineV1),
 }
 
 // The report but for its lists of observation results, of the baseline's and of predictive bands, which stand beside it: the first and the last by their
@@ -42,28 +39,18 @@ pub struct UncertaintyTruingReportV1 {
     pub converged: bool,
     pub priors: TruingPriorsV1,
     pub observations: usize,
-    pub baseline: Baseline,
+    pub baseline: Option<TruingBaselineV1>,
     pub diagnostics: TruingUncertaintyDiagnosticsV1,
     pub approximation: TruingApproximationV1,
     pub predictive_bands: usize,
     pub warnings: Warnings,
 }
 
-// The report that stands, but for its lists, which are read place by place; or that none stands.
-#[derive(Clone, Copy)]
-pub enum Shown {
-    Absent,
-    Given(UncertaintyTruingReportV1),
-}
-
 // The iterations begun: those that are not left.
 fn iterations_done(left: usize) -> usize
     ensures { result ≡ 100 - left }
 {
-    if left > MAX_ITERATIONS {
-        return 0;
-    }
-    MAX_ITERATIONS - left
+    MAX_ITERATIONS.saturating_sub(left)
 }
 
 // n observations and `wanted` requested distances; `g` is the fit's progress when it has ended; `outside`: whether a requested distance lies outside the
@@ -73,7 +60,7 @@ pub fn report(
     wanted: usize,
     g: Progress,
     priors: TruingPriorsV1,
-    baseline: Baseline,
+    baseline: Option<TruingBaselineV1>,
     outside: bool,
 ) -> UncertaintyTruingReportV1
     ensures { Shows result n wanted g priors baseline outside }
@@ -81,10 +68,9 @@ pub fn report(
     let p = g.point;
     let e = g.evaluation;
     let convergence = g.convergence;
-    let information = e.posterior_information;
     let iterations = iterations_done(g.left);
-    let converged = warnings::is_converged(convergence);
-    let approximation = summary::approximation(converged, p, information);
+    let converged = convergence.is_some();
+    let approximation = summary::approximation(converged, p, e.posterior_information);
     let diagnostics = summary::diagnostics(n, convergence, g.evaluations, e, approximation);
     let dof = diagnostics.effective_degrees_of_freedom;
     let found = warnings::collect_warnings(convergence, e, priors, approximation, dof, outside);
@@ -105,129 +91,48 @@ pub fn report(
 }
 
 // Whether a requested distance lies strictly outside the observed ones.
-pub fn outside<'a>(ranges: &'a [f64], distances: &'a [f64]) -> bool
-    ensures { result ≡ any_outside_of ranges.now distances.now }
+#[tactic(auto, unfolding(crate::specs::Places::any_outside_of))]
+pub fn outside(ranges: &[f64], requested: &[TruingPredictionRequestV1]) -> bool
+    ensures { result ≡ any_outside_of ranges.now requested.now }
 {
     let min = warnings::observed_min(ranges);
     let max = warnings::observed_max(ranges);
-    warnings::any_outside(min, max, distances)
+    warnings::any_outside(min, max, requested)
 }
 
 // ---- the lists, by their places, which are counted from 0
 
-fn place(s: &[f64], i: usize) -> Number
-    ensures { number_of result ≡ nth i s.now }
+fn place<T: Copy>(s: &[T], i: usize) -> Option<T>
+    ensures { result ≡ slice_get s.now i }
 {
-    if i >= s.len() {
-        return Number::Absent;
-    }
-    Number::Given(s[i])
-}
-
-// A sigma that is not above 0 stands for none.
-fn sigma_of(x: f64) -> Number
-    ensures { number_of result ≡ sigma_of x }
-{
-    if x > 0.0 {
-        return Number::Given(x);
-    }
-    Number::Absent
-}
-
-#[derive(Clone, Copy)]
-pub enum ResultAt {
-    Absent,
-    Given(WeightedTruingObservationResultV1),
+    s.get(i).copied()
 }
 
 // The i-th observation result.
-pub fn result_at<'a>(
+#[tactic(auto, using(crate::proofs::Laws::zip_get, crate::proofs::Laws::zip_none, crate::proofs::Laws::zip_none_2))]
+pub fn result_at(
     i: usize,
-    ranges: &'a [f64],
-    drops: &'a [f64],
-    sigmas: &'a [f64],
-    predicted: &'a [f64],
-) -> ResultAt
-    ensures { result_says result ≡ nth i (results_of (observations_of ranges.now drops.now sigmas.now) predicted.now) }
+    observations: Columns<'_>,
+    predicted: &[f64],
+) -> Option<WeightedTruingObservationResultV1>
+    ensures { result ≡ slice_get (results_of (observations_in observations.entry) predicted.now) i }
 {
-    let range_at = place(ranges, i);
-    let Number::Given(range) = range_at else {
-        return ResultAt::Absent;
-    };
-    let drop_at = place(drops, i);
-    let Number::Given(drop) = drop_at else {
-        return ResultAt::Absent;
-    };
-    let sigma_at = place(sigmas, i);
-    let Number::Given(sigma) = sigma_at else {
-        return ResultAt::Absent;
-    };
-    let predicted_at = place(predicted, i);
-    let Number::Given(x) = predicted_at else {
-        return ResultAt::Absent;
-    };
-    ResultAt::Given(summary::observation_result(range, drop, sigma, x))
-}
-
-#[derive(Clone, Copy)]
-enum RowAt {
-    Absent,
-    Given(Row),
-}
-
-// The i-th row.
-fn row_at<'a>(i: usize, predicted: &'a [f64], by_mv: &'a [f64], by_bc: &'a [f64]) -> RowAt
-    ensures { row_says result ≡ nth i (zip_with3 row_of predicted.now by_mv.now by_bc.now) }
-{
-    let predicted_at = place(predicted, i);
-    let Number::Given(x) = predicted_at else {
-        return RowAt::Absent;
-    };
-    let mv_at = place(by_mv, i);
-    let Number::Given(mv) = mv_at else {
-        return RowAt::Absent;
-    };
-    let bc_at = place(by_bc, i);
-    let Number::Given(bc) = bc_at else {
-        return RowAt::Absent;
-    };
-    RowAt::Given(Row {
-        predicted_drop: x,
-        d_drop_d_mv: mv,
-        d_drop_d_bc: bc,
-    })
-}
-
-#[derive(Clone, Copy)]
-pub enum BandAt {
-    Absent,
-    Given(TruingPredictiveBandV1),
+    let o = observations.get(i)?;
+    let predicted = place(predicted, i)?;
+    Some(summary::observation_result(o, predicted))
 }
 
 // The i-th predictive band.
-pub fn band_at<'a>(
+#[tactic(auto, using(crate::proofs::Laws::zip_get, crate::proofs::Laws::zip_none, crate::proofs::Laws::zip_none_2))]
+pub fn band_at(
     i: usize,
     a: TruingApproximationV1,
-    ranges: &'a [f64],
-    sigmas: &'a [f64],
-    predicted: &'a [f64],
-    by_mv: &'a [f64],
-    by_bc: &'a [f64],
-) -> BandAt
-    ensures { band_at_says result ≡ nth i (zip_with (band_of (approximation_says a)) (zip_with requested_at ranges.now sigmas.now) (zip_with3 row_of predicted.now by_mv.now by_bc.now)) }
+    requested: &[TruingPredictionRequestV1],
+    rows: RowColumns<'_>,
+) -> Option<TruingPredictiveBandV1>
+    ensures { option_map band_says result ≡ slice_get (zip_with (band_of (approximation_says a)) requested.now (rows_in rows.entry)) i }
 {
-    let range_at = place(ranges, i);
-    let Number::Given(range) = range_at else {
-        return BandAt::Absent;
-    };
-    let sigma_at = place(sigmas, i);
-    let Number::Given(sigma) = sigma_at else {
-        return BandAt::Absent;
-    };
-    let found = row_at(i, predicted, by_mv, by_bc);
-    let RowAt::Given(row) = found else {
-        return BandAt::Absent;
-    };
-    let given = sigma_of(sigma);
-    BandAt::Given(bands::band(a, range, given, row))
+    let d = place(requested, i)?;
+    let row = rows.get(i)?;
+    Some(bands::band(a, d, row))
 }

@@ -2,9 +2,9 @@
 use mathlib.Core.Path.{refl}
 use lib.Ieee.{of_bits, to_bits}
 use Rattle.numerals.specs.Numbers.{glyph_of, double_text, count_text}
-use Rattle.report_text.specs.Texts.{led, joined, bracketed, normal_text, priors_text, results_text, warning_text, warnings_text, declined_text}
+use Rattle.report_text.specs.Texts.{led, joined, opened, bracketed, normal_text, priors_text, results_text, warning_text, warnings_text, declined_text}
 use Rattle.report_text.specs.Examples.{Examples}
 
 pub examples : Examples
-unfolding led joined bracketed normal_text priors_text results_text warning_text warnings_text declined_text glyph_of double_text count_text to_bits of_bits
+unfolding led joined opened bracketed normal_text priors_text results_text warning_text warnings_text declined_text glyph_of double_text count_text to_bits of_bits
 examples = (refl, refl, refl, refl)

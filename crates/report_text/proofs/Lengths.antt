@@ -1,9 +1,9 @@
 -- How long the texts of the answers are: that of a report with at most 64 observations, 64 bands and 10 warnings has at most 28200 bytes.
+use Rattle.std.specs.Prelude.{Option, None, Some}
 use Prim.Native.Nat.{ℕ, zero, suc, ◌+◌, ◌*◌, ◌/◌, ◌%◌, ◌≤◌}
 use mathlib.Core.Path.{◌≡◌, refl}
 use mathlib.Core.Bool.{Bool, true, false, cond}
 use mathlib.Core.List.{List, [], ◌∷◌, ◌++◌, map}
-use mathlib.Core.Option.{Option, none, some}
 use native.Mathlib.Nat.{mul-suc}
 use native.Mathlib.Omega.{arith}
 use lib.Dec.{ltb}
@@ -14,7 +14,7 @@ use Rattle.definition.specs.Request.{Requested, Measured}
 use Rattle.definition.specs.Fit.{Fit}
 use Rattle.definition.specs.Summary.{Approximation, available, unavailable, Diagnostics, Band, Baseline, Report, warn, warnings_of}
 use Rattle.definition.specs.declared.Evaluation.{Evaluation}
-use Rattle.definition.specs.declared.Prior.{Prior}
+use Rattle.definition.specs.declared.NormalPriorV1.{NormalPriorV1}
 use Rattle.definition.specs.declared.TruingPriorsV1.{TruingPriorsV1}
 use Rattle.definition.specs.declared.TruingCovarianceV1.{TruingCovarianceV1}
 use Rattle.definition.specs.declared.WeightedTruingObservationResultV1.{WeightedTruingObservationResultV1}
@@ -33,6 +33,7 @@ use Rattle.report_text.specs.Writing.{Text}
 use Rattle.report_text.specs.Texts.{
   led,
   joined,
+  opened,
   bracketed,
   or_none,
   truth_text,
@@ -101,7 +102,7 @@ led_length [] = refl
 led_length (f ∷ fs) = omega (arith, led_length fs, length-append f (led fs))
 
 short : {n : ℕ} (fs : List Text) → size fs ≤ n → length (bracketed fs) ≤ n
-unfolding joined bracketed
+unfolding joined opened bracketed
 short [] h = h
 short (f ∷ fs) h = omega (arith, led_length fs, length-append (f ++ led fs) (bytes ")"), length-append f (led fs))
 
@@ -112,8 +113,8 @@ map_size text k h (a ∷ l) = omega (arith, h a, map_size text k h l, mul-suc (s
 -- ---- the parts
 
 number_length : (x : Option Float) → length (number_text x) ≤ 16
-number_length none = omega arith
-number_length (some x) = omega (arith, double_length x)
+number_length None = omega arith
+number_length (Some x) = omega (arith, double_length x)
 
 gaussian_length : (g : GaussianIntervalV1) → length (gaussian_text g) ≤ 87
 unfolding gaussian_text
@@ -129,13 +130,13 @@ gaussian_length g =
     ))
 
 interval_length : (i : Option GaussianIntervalV1) → length (interval_text i) ≤ 87
-interval_length none = omega arith
-interval_length (some g) = gaussian_length g
+interval_length None = omega arith
+interval_length (Some g) = gaussian_length g
 
-prior_length : (p : Prior) → length (prior_text p) ≤ 36
+prior_length : (p : Option NormalPriorV1) → length (prior_text p) ≤ 36
 unfolding normal_text
-prior_length Prior.Absent = omega arith
-prior_length (Prior.Normal p) = short _ (omega (arith, double_length p.mean, double_length p.sigma))
+prior_length None = omega arith
+prior_length (Some p) = short _ (omega (arith, double_length p.mean, double_length p.sigma))
 
 priors_length : (p : TruingPriorsV1) → length (priors_text p) ≤ 76
 unfolding priors_text
@@ -159,10 +160,10 @@ results_length : (results : Results) → length results ≤ 64 → length (resul
 unfolding results_text
 results_length results h = short _ (omega (arith, map_size result_text 104 result_length results))
 
-baseline_length : (b : Option Baseline) → ((x : Baseline) → b ≡ some x → length x.observations ≤ 64) → length (baseline_text b) ≤ 6776
+baseline_length : (b : Option Baseline) → ((x : Baseline) → b ≡ Some x → length x.observations ≤ 64) → length (baseline_text b) ≤ 6776
 unfolding baseline_text
-baseline_length none h = omega arith
-baseline_length (some b) h =
+baseline_length None h = omega arith
+baseline_length (Some b) h =
     short _
     (omega (
       arith,
@@ -173,9 +174,9 @@ baseline_length (some b) h =
     ))
 
 criterion_length : (c : Option TruingMapConvergenceCriterionV1) → length (or_none criterion_name c) ≤ 14
-criterion_length none = omega arith
-criterion_length (some ScaledGradient) = omega arith
-criterion_length (some ObjectiveMesh) = omega arith
+criterion_length None = omega arith
+criterion_length (Some ScaledGradient) = omega arith
+criterion_length (Some ObjectiveMesh) = omega arith
 
 diagnostics_length : (d : Diagnostics) → length (diagnostics_text d) ≤ 225
 unfolding diagnostics_text
@@ -295,7 +296,7 @@ truth_length false = omega arith
 -- the lists of a report have no more entries than a session has places, and there are ten warnings
 pub record Bounded (p : Report) : Type 0 where
   pub results : length p.observations ≤ 64
-  pub entered : (b : Baseline) → p.baseline ≡ some b → length b.observations ≤ 64
+  pub entered : (b : Baseline) → p.baseline ≡ Some b → length b.observations ≤ 64
   pub bands : length p.bands ≤ 64
   pub warnings : length p.warnings ≤ 10
 

@@ -1,6 +1,7 @@
 -- The laws behind the functions' proofs.
-pub mod Starts
-pub mod Laws
-pub mod Lengths
 pub mod Writing
+pub mod Putting
+pub mod Listing
+pub mod Parts
+pub mod Lengths
 mod Examples

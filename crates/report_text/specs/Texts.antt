@@ -1,10 +1,7 @@
 -- S22's report written out, and the other answers of the line protocol (docs/PROTOCOL.md). A text is the list of its bytes; none of these has its line feed.
-use Rattle.std.specs.Prelude.{ℕ, Bool, true, false, List, [], ◌∷◌, ◌++◌, map, Float}
-use Rattle.std.proofs.Math.Option.{Option, none, some}
+use Rattle.std.specs.Prelude.{ℕ, Bool, true, false, List, [], ◌∷◌, ◌++◌, map, Float, Option, None, Some}
 use Rattle.interval.specs.declared.GaussianIntervalV1.{GaussianIntervalV1}
 use Rattle.definition.specs.declared.NormalPriorV1.{NormalPriorV1}
-use Rattle.definition.specs.declared.Prior.{Prior}
-use Rattle.definition.specs.declared.Prior.TheVariants.{Absent, Normal}
 use Rattle.definition.specs.declared.TruingPriorsV1.{TruingPriorsV1}
 use Rattle.definition.specs.declared.TruingCovarianceV1.{TruingCovarianceV1}
 use Rattle.definition.specs.declared.TruingGaussianApproximationV1.{TruingGaussianApproximationV1}
@@ -16,6 +13,10 @@ use Rattle.definition.specs.declared.TruingApproximationFailureCodeV1.TheVariant
 use Rattle.definition.specs.declared.TruingUncertaintyWarningCodeV1.{TruingUncertaintyWarningCodeV1}
 use Rattle.definition.specs.declared.TruingUncertaintyWarningCodeV1.TheVariants as Warning
 use Rattle.definition.specs.Summary.{Baseline, Approximation, available, unavailable, Diagnostics, Band, Report}
+use Rattle.definition.specs.Meaning.{approximation_says}
+use Rattle.summary.specs.Summary.{diagnostics_says}
+use Rattle.warnings.specs.Warnings.{codes_of}
+use Rattle.report.specs.declared.UncertaintyTruingReportV1.{UncertaintyTruingReportV1}
 use Rattle.numerals.specs.Numbers.{double_text, count_text}
 use Rattle.words.specs.Words.{bytes}
 use Rattle.report_text.specs.Writing.{Text}
@@ -35,13 +36,16 @@ joined [] = []
 joined (f ∷ fs) = f ++ led fs
 
 -- a record or a list stands in brackets; an empty list is ()
+unfoldable pub opened : List Text → Text
+opened fs = bytes "(" ++ joined fs
+
 unfoldable pub bracketed : List Text → Text
-bracketed fs = bytes "(" ++ joined fs ++ bytes ")"
+bracketed fs = opened fs ++ bytes ")"
 
 -- what is absent is none
 abbrev pub or_none : {A : Type 0} → (A → Text) → Option A → Text
-or_none text none = bytes "none"
-or_none text (some a) = text a
+or_none text None = bytes "none"
+or_none text (Some a) = text a
 
 -- ---- single fields
 
@@ -88,9 +92,8 @@ interval_text i = or_none gaussian_text i
 unfoldable pub normal_text : NormalPriorV1 → Text
 normal_text p = bracketed (double_text p.mean ∷ double_text p.sigma ∷ [])
 
-abbrev pub prior_text : Prior → Text
-prior_text Absent = bytes "none"
-prior_text (Normal p) = normal_text p
+abbrev pub prior_text : Option NormalPriorV1 → Text
+prior_text p = or_none normal_text p
 
 unfoldable pub priors_text : TruingPriorsV1 → Text
 priors_text p = bracketed (prior_text p.muzzle_velocity_fps ∷ prior_text p.ballistic_coefficient ∷ [])
@@ -105,8 +108,8 @@ unfoldable pub results_text : List WeightedTruingObservationResultV1 → Text
 results_text results = bracketed (map result_text results)
 
 unfoldable pub baseline_text : Option Baseline → Text
-baseline_text none = bytes "none"
-baseline_text (some b) =
+baseline_text None = bytes "none"
+baseline_text (Some b) =
     bracketed (double_text b.entered.mv ∷ double_text b.entered.bc ∷ double_text b.chi_square ∷ results_text b.observations ∷ [])
 
 unfoldable pub diagnostics_text : Diagnostics → Text
@@ -153,6 +156,14 @@ report_text p =
     (bytes "report" ∷ count_text p.schema_version ∷ double_text p.point.mv ∷ double_text p.point.bc ∷ count_text p.iterations ∷ truth_text p.is_converged ∷
     priors_text p.priors ∷ results_text p.observations ∷ baseline_text p.baseline ∷ diagnostics_text p.diagnostics ∷
     approximation_text p.approximation ∷ bands_text p.bands ∷ warnings_text p.warnings ∷ [])
+
+-- by its head, beside the texts of its lists and of its baseline
+unfoldable pub parts_text : UncertaintyTruingReportV1 → Text → Text → Text → Text
+parts_text h observations baseline bands =
+    bracketed
+    (bytes "report" ∷ count_text h.schema_version ∷ double_text h.map_muzzle_velocity_fps ∷ double_text h.map_ballistic_coefficient ∷ count_text h.iterations ∷
+    truth_text h.converged ∷ priors_text h.priors ∷ observations ∷ baseline ∷ diagnostics_text (diagnostics_says h.diagnostics) ∷
+    approximation_text (approximation_says h.approximation) ∷ bands ∷ warnings_text (codes_of h.warnings) ∷ [])
 
 -- ---- the other answers
 

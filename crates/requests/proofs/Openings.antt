@@ -13,7 +13,8 @@ use Rattle.definition.specs.Lists.{first_at}
 use Rattle.definition.specs.Request.{Observation, Requested, Measured, Opening}
 use Rattle.definition.specs.Run.{Run, done, refuse, bind, require, unless}
 use Rattle.definition.specs.Whole.{faulty_observation, faulty_requested, sound_prior_of, checked_point, checked_count, checked_measured, checked_requested}
-use Rattle.definition.specs.Whole.{within_of, whole}
+use Rattle.numeric.specs.Numeric.{within_of}
+use Rattle.definition.specs.Whole.{whole}
 use Rattle.criteria.specs.Criteria.{mv_min, mv_max, bc_min, bc_max}
 use Rattle.requests.specs.Kept.{kept}
 

@@ -1,7 +1,7 @@
 -- What `root_of` gives for a pattern whose number is N * 4 ^ k, N of 105 or 106 digits: the nearest whole number to the root of N, times 2 ^ k.
 -- Both the code and the theorem rest on `root_is`. Assumes nothing.
 use mathlib.Core.Path.{◌≡◌, refl, sym, ap, ◌∙◌, subst}
-use Prim.Native.Nat.{ℕ, zero, suc, ◌+◌, ◌-◌, ◌*◌, ◌/◌, ◌^◌, ◌≤◌, ◌<◌, compare}
+use Prim.Native.Nat.{ℕ, zero, suc, ◌+◌, ◌-◌, ◌*◌, ◌/◌, ◌%◌, ◌^◌, ◌≤◌, ◌<◌, compare}
 use native.Mathlib.Nat.{zero-lt-suc, le_of_lt, lt_of_not-le, le_trans, le_of_eq, le_of_suc-le-suc, lt_of_le_of_lt, lt_of_lt_of_le, lt_irrefl, lt_trans}
 use native.Mathlib.Nat.{mul-le-mul, mul-le-mul_right, mul-le-mul_left, mul-lt-mul_of_pos_right, mul-pos, le_of_mul-le-mul_right, lt_of_mul-lt-mul_right}
 use native.Mathlib.Nat.{zero-mul, mul-div_cancel, mul-mul-mul_comm, div-mul-le_self, lt-div-mul-add}
@@ -13,10 +13,11 @@ use lib.Ieee.{Float, nan, inf, fin, binary64, units, size, nearest, up, down, of
 use lib.Ieee.Fits.{down_pos}
 use lib.Ieee.Exact.{HasValue}
 use Rattle.root.specs.Root.{isqrt, nearest_root, root_of}
-use Rattle.root.specs.Nearest.{magnitude, infinity}
-use Rattle.root.specs.Steps.{Rounds}
+use Rattle.root.specs.Nearest.{magnitude, infinity, exact}
+use Rattle.root.specs.Steps.{Rounds, Scales}
 use Rattle.root.proofs.Squares.{square_lt, Whole, isqrt_is, rounds_unique, Cmp, cmp, cmp_scaled, nearest_rounds, size_is}
 use Rattle.root.proofs.Patterns.{pattern_value, magnitude_pos, units_is}
+use Rattle.root.proofs.Scaling.{Even, made_even}
 
 -- ---- the root's whole part and its first 53 digits, over N and p = 2 ^ k
 
@@ -128,11 +129,20 @@ root_of_value (fin true m e) a p h = absurd (true≢false h.0)
 root_of_value (fin false zero e) a p h = absurd (no_zero e a p h.1)
 root_of_value (fin false (suc m) e) a p h = ap (λ (u : ℕ). nearest_root (u * 2 ^ 1074)) (ap (λ (x : ℕ). x / down e) h.1 ∙ mul-div_cancel a (down_pos e))
 
-pub root_is : (b N k q : ℕ) → 0 < b → b < infinity → magnitude b * 2 ^ 1074 ≡ N * (2 ^ k * 2 ^ k) → 2 ^ 104 ≤ N → N < 2 ^ 106 → k ≤ 1600 → Rounds N q
-    → of_bits binary64 (k * 2 ^ 52 + q) ≡ root_of (of_bits binary64 b)
-root_is b N k q p f e lo hi s r =
+pub root_is : (b N k q : ℕ) → 0 < b → b < infinity → Even (exact b) N k → Rounds N q → of_bits binary64 (k * 2 ^ 52 + q) ≡ root_of (of_bits binary64 b)
+root_is b N k q p f e r =
     sym
     (root_of_value (of_bits binary64 b) (magnitude b) (magnitude_pos b p) (pattern_value b f)
-    ∙ ap nearest_root e
-    ∙ nearest_root_is N k q lo hi r
-    ∙ units_is k q (rounds_least N q lo r) (rounds_most N q hi r) s)
+    ∙ ap nearest_root e.same
+    ∙ nearest_root_is N k q e.least e.most r
+    ∙ units_is k q (rounds_least N q e.least r) (rounds_most N q e.most r) e.small)
+
+-- the code's pattern: the significand's leading digit adds one to the exponent's field
+pub pattern_finite : (b m e q : ℕ) → Scales (exact b) m e → Rounds (m * 2 ^ (e % 2) % 2 ^ 64 * 2 ^ 52) q → (e - 52) / 2 * 2 ^ 52 + q < infinity
+pattern_finite b m e q s r =
+    let v = made_even (exact b) m e s in
+    omega (arith, v.small, rounds_most _ q v.most r)
+
+pub pattern_root : (b m e q : ℕ) → 0 < b → b < infinity → Scales (exact b) m e → Rounds (m * 2 ^ (e % 2) % 2 ^ 64 * 2 ^ 52) q
+    → of_bits binary64 ((e - 52) / 2 * 2 ^ 52 + q) ≡ root_of (of_bits binary64 b)
+pattern_root b m e q p f s r = root_is b _ ((e - 52) / 2) q p f (made_even (exact b) m e s) r

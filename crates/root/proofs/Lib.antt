@@ -1,8 +1,8 @@
 -- The laws behind the functions' proofs, the theorem that the definition is IEEE 754's, and values of it.
 pub mod Squares
 pub mod Patterns
-pub mod Definition
 pub mod Scaling
+pub mod Definition
 pub mod Cases
 pub mod Nearest
 pub mod Figures

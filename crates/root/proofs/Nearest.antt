@@ -1,7 +1,7 @@
 -- The theorems of specs/Nearest.antt: the definition gives the double that IEEE 754 asks for, and there is one only. Assumes nothing.
 use mathlib.Core.Path.{◌≡◌, sym, ap, ◌∙◌, subst}
 use mathlib.Core.Logic.{inl, inr}
-use Prim.Native.Nat.{ℕ, zero, suc, ◌+◌, ◌-◌, ◌*◌, ◌^◌, ◌≤◌, ◌<◌, zero-le}
+use Prim.Native.Nat.{ℕ, zero, suc, ◌+◌, ◌-◌, ◌*◌, ◌/◌, ◌%◌, ◌^◌, ◌≤◌, ◌<◌, zero-le}
 use native.Mathlib.Nat.{not-suc-le-zero, le_refl, le_trans, le_of_eq, le_of_lt, le_of_suc-le-suc, le_antisymm, lt_of_lt_of_le, lt_of_le_of_lt, lt_of_not-le}
 use native.Mathlib.Nat.{lt_irrefl, lt_trans, eq-or-lt_of_le, add-le-add, mul-pos, mul-le-mul, mul-le-mul_left, mul-le-mul_right, mul-lt-mul_of_pos_right}
 use native.Mathlib.Nat.{mul-lt-mul_of_pos_left}
@@ -133,7 +133,11 @@ module _ (b N k : ℕ) (e : Even (exact b) N k) where
       }
 
 even : (b : ℕ) → 0 < b → b < infinity → (N : ℕ) × (k : ℕ) × Even (exact b) N k
-even b p l = let s = scales b p l in made_even (exact b) s.0 s.1 s.2
+even b p l =
+    let s = scales b p l in
+    let m = s.0 in
+    let e = s.1 in
+    (m * 2 ^ (e % 2) % 2 ^ 64 * 2 ^ 52, (e - 52) / 2, made_even (exact b) m e s.2)
 
 written : (r : ℕ) → r < infinity → to_bits binary64 (of_bits binary64 r) ≡ r
 written r l = to_bits-of_bits binary64 r (width r l) (no_nan r l)
@@ -151,4 +155,4 @@ nearest b p l =
     let r : Rounds N q = chosen_rounds N k e.least in
     let g = made_nearest b N k e q r in
     subst (NearestRoot b)
-    (sym (ap (to_bits binary64) (sym (root_is b N k q p l e.same e.least e.most e.small r)) ∙ written (k * 2 ^ 52 + q) g.finite)) g
+    (sym (ap (to_bits binary64) (sym (root_is b N k q p l e r)) ∙ written (k * 2 ^ 52 + q) g.finite)) g

@@ -11,55 +11,33 @@ use lib.IntN.{ℤ}
 use lib.Arith.{le→nltb}
 use lib.Dec.{T, nltb→le, leb, ltb, eqb, leb→le, eqb→eq, not_T, lt→ltb, lit<}
 use lib.Pow.{pow_pos, pow_mono, pow-add, pow-lt}
+use borrow.Author.Tests.{ne_eqb, lt-leb}
 use lib.Ieee.{Float, nan, inf, fin, binary64, odd, units, size, up, down, of_fields, of_bits, to_bits, fits, is_nan, nan_bits}
 use lib.Ieee.Bits.{is_true, is_false, cond_no, of_bits-to_bits, of_bits-fits, nan_bits_is, nan_bits_above}
 use lib.Ieee.Fits.{odd-fits, down_pos}
 use lib.Ieee.Exact.{HasValue, odd_sign, units_val}
+use Rattle.std.proofs.lemmas.Float.{not_nan_f64_bits}
 use Rattle.root.specs.Nearest.{fields_magnitude, magnitude, infinity}
 
 -- ---- what a pattern is read as
 
-under_ones : (e t : ℕ) → suc e < 2047 → of_fields binary64 false (suc e) t ≡ odd 53 false (2 ^ 52 + t) e 1074
+field_value : (s : Bool) (e t : ℕ) → e < 2047 → HasValue (of_fields binary64 s e t) s (fields_magnitude e t) (2 ^ 1074)
 unfolding of_fields
-under_ones e t h =
-    cond_no (eqb (suc e) 2047) (cond (eqb t 0) (inf false) nan) (odd 53 false (2 ^ 52 + t) e 1074)
-    (not_T (eqb (suc e) 2047) (λ (u : T (eqb (suc e) 2047)). differ e h (eqb→eq (suc e) 2047 u)))
-  where
-    differ : (x : ℕ) → suc x < 2047 → suc x ≡ 2047 → ⊥
-    differ x a b = omega arith
+field_value s zero t h = subst (λ (a : ℕ). HasValue (odd 53 s t 0 1074) s a (2 ^ 1074)) (mul-one t) (odd_sign 53 s t 0 1074)
+field_value s (suc e) t h = rw (ne_eqb (suc e) 2047 (λ k. omega arith)) (odd_sign 53 s (2 ^ 52 + t) e 1074)
 
-at_zero : (t : ℕ) → of_fields binary64 false 0 t ≡ odd 53 false t 0 1074
-unfolding of_fields
-at_zero t = refl
+-- The tie to the library: the double that a pattern is read as is the number that the pattern stands for, with its sign.
+pub bits_value : (b : ℕ) → b % 2 ^ 63 < infinity → HasValue (of_bits binary64 b) (leb (2 ^ 63) b) (magnitude (b % 2 ^ 63)) (2 ^ 1074)
+unfolding of_bits magnitude
+bits_value b h =
+    let e = b % 2 ^ 63 / 2 ^ 52 in
+    let low : b % 2 ^ 63 % 2 ^ 52 ≡ b % 2 ^ 52 = omega arith in
+    rw low (field_value (leb (2 ^ 63) b) e (b % 2 ^ 52) (omega arith))
 
-fields_value : (e t : ℕ) → e < 2047 → HasValue (of_fields binary64 false e t) false (fields_magnitude e t) (2 ^ 1074)
-fields_value zero t h =
-    subst (λ (x : Float). HasValue x false t (2 ^ 1074)) (sym (at_zero t))
-    (subst (λ (a : ℕ). HasValue (odd 53 false t 0 1074) false a (2 ^ 1074)) (mul-one t) (odd_sign 53 false t 0 1074))
-fields_value (suc e) t h =
-    subst (λ (x : Float). HasValue x false ((2 ^ 52 + t) * 2 ^ e) (2 ^ 1074)) (sym (under_ones e t h)) (odd_sign 53 false (2 ^ 52 + t) e 1074)
-
-of_bits_is : (b : ℕ) → of_bits binary64 b ≡ of_fields binary64 (leb (2 ^ 63) b) (b % 2 ^ 63 / 2 ^ 52) (b % 2 ^ 52)
-unfolding of_bits
-of_bits_is b = refl
-
-small : (b : ℕ) → b < infinity → b < 2 ^ 63
-small b h = omega arith
-
-field_lt : (b : ℕ) → b < infinity → b / 2 ^ 52 < 2047
-field_lt b h = omega arith
-
--- The tie to the library: the double that a pattern is read as is the number that the pattern stands for.
 pub pattern_value : (b : ℕ) → b < infinity → HasValue (of_bits binary64 b) false (magnitude b) (2 ^ 1074)
-unfolding magnitude
 pattern_value b h =
-    subst (λ (x : Float). HasValue x false (magnitude b) (2 ^ 1074))
-    (sym
-    (of_bits_is b
-    ∙ ap (λ (s : Bool). of_fields binary64 s (b % 2 ^ 63 / 2 ^ 52) (b % 2 ^ 52))
-    (is_false (leb (2 ^ 63) b) (not_T (leb (2 ^ 63) b) (λ (u : T (leb (2 ^ 63) b)). not-le_of_lt (small b h) (leb→le (2 ^ 63) b u))))
-    ∙ ap (λ (x : ℕ). of_fields binary64 false (x / 2 ^ 52) (b % 2 ^ 52)) (mod-eq_of_lt (small b h))))
-    (fields_value (b / 2 ^ 52) (b % 2 ^ 52) (field_lt b h))
+    let same : b % 2 ^ 63 ≡ b = omega arith in
+    rw (lt-leb (2 ^ 63) b (omega arith), same) at (bits_value b (omega arith))
 
 -- ---- a larger pattern stands for a larger number
 
@@ -144,6 +122,10 @@ made_magnitude k q h l = elim (eq-or-lt_of_le l) [
   | inr g ↦ rw (made_field k q h g) (ap (λ (x : ℕ). x * 2 ^ k) (made_digits k q h g))
 ]
 
+-- what owning an `f64` tells: the format holds it, so it is read back from its pattern
+pub read_back : (x : Float) → fits binary64 x ≡ true → of_bits binary64 (to_bits binary64 x) ≡ x
+read_back x e = of_bits-to_bits binary64 x (subst T (sym e) tt)
+
 -- ---- two doubles of one sign and one magnitude are one
 
 written : (m : ℕ) (e : ℤ) (a : ℕ) → m * up e * 2 ^ 1074 ≡ a * down e → to_bits binary64 (fin false m e) ≡ 0 + (size a - 53) * 2 ^ 52 + a / 2 ^ (size a - 53)
@@ -189,21 +171,14 @@ units_is k q h l s =
 
 -- ---- a NaN's pattern is one above that of infinity
 
-no_nan_test : (b : ℕ) → ltb infinity (b % 2 ^ 63) ≡ is_nan (of_bits binary64 b)
-no_nan_test b = sym (nan_bits_above binary64 b) ∙ nan_bits_is binary64 b
+-- as `f64::from_bits` asks it
+pub finite_bits : (b : ℕ) → b < infinity → T (not (nan_bits binary64 b))
+finite_bits b h = not_nan_f64_bits b (omega arith)
 
 pub no_nan : (b : ℕ) → b < infinity → T (not (is_nan (of_bits binary64 b)))
-no_nan b h = subst (λ (v : Bool). T (not v)) (no_nan_test b) (le→nltb infinity (b % 2 ^ 63) (low b h))
-  where
-    low : (n : ℕ) → n < infinity → n % 2 ^ 63 ≤ infinity
-    low n l = omega arith
-
--- the same, as `f64::from_bits` asks it
-pub finite_bits : (b : ℕ) → b < infinity → T (not (nan_bits binary64 b))
-finite_bits b h = subst (λ (v : Bool). T (not v)) (sym (nan_bits_is binary64 b)) (no_nan b h)
+no_nan b h = rw nan_bits_is at (finite_bits b h)
 
 pub is_finite : (b : ℕ) → T (not (is_nan (of_bits binary64 b))) → b < 2 ^ 63 → b ≢ infinity → b < infinity
-is_finite b t l n = go b l n (nltb→le infinity (b % 2 ^ 63) (subst (λ (v : Bool). T (not v)) (sym (no_nan_test b)) t))
-  where
-    go : (x : ℕ) → x < 2 ^ 63 → x ≢ infinity → x % 2 ^ 63 ≤ infinity → x < infinity
-    go x a d c = omega arith
+is_finite b t l n =
+    let k = nltb→le infinity (b % 2 ^ 63) (rw (← nan_bits_is binary64 b, nan_bits_above) at t) in
+    omega (arith, k)

@@ -1,15 +1,16 @@
 -- A finite pattern's number as m * 2 ^ e with m of 53 digits, and as N * 4 ^ k with N of 105 or 106. Assumes nothing.
-use mathlib.Core.Path.{◌≡◌, refl, sym, ap, ◌∙◌}
+use mathlib.Core.Path.{◌≡◌, sym, ap, ◌∙◌}
 use mathlib.Core.Logic.{inl, inr}
 use Prim.Native.Nat.{ℕ, zero, suc, ◌+◌, ◌-◌, ◌*◌, ◌/◌, ◌%◌, ◌^◌, ◌≤◌, ◌<◌}
-use native.Mathlib.Nat.{le_trans, le_of_eq, lt_of_lt_of_le, zero-lt-suc, eq-zero-or-pos, mul_assoc, mul-le-mul_right, mul-lt-mul_of_pos_right}
+use native.Mathlib.Nat.{le_of_eq, le_trans, lt_of_le_of_lt, lt_of_lt_of_le, eq-zero-or-pos, mod-eq_of_lt, mul_assoc, mul-le-mul_right, mul-lt-mul_of_pos_right}
+use native.Mathlib.Nat.{pow-succ'}
 use native.Mathlib.Omega.{arith}
 use lib.Pow.{pow_pos, pow-add}
 use lib.Ieee.{size}
 use lib.Ieee.Digits.{size-lt, size-le, size_reaches}
-use Rattle.root.specs.Nearest.{infinity, exact}
+use Rattle.root.specs.Nearest.{magnitude, infinity, exact}
 use Rattle.root.specs.Steps.{Scales}
-use Rattle.root.proofs.Squares.{suc_pred}
+use Rattle.root.proofs.Squares.{power_lt, twice_pred}
 use Rattle.root.proofs.Patterns.{subnormal, normal}
 
 -- ---- m * 2 ^ e
@@ -18,76 +19,60 @@ pub normal_scales : (b : ℕ) → b < infinity → 0 < b / 2 ^ 52 → Scales (ex
 normal_scales b l h =
     let f = b / 2 ^ 52 - 1 in
     let m = 2 ^ 52 + b % 2 ^ 52 in
+    let field : b / 2 ^ 52 ≡ suc f = omega arith in
+    let moved : b / 2 ^ 52 + 1073 ≡ f + 1074 = omega arith in
     record {
-      same =
-          ap (λ (x : ℕ). m * x) (ap (λ (x : ℕ). 2 ^ x) (moved (b / 2 ^ 52) h) ∙ pow-add 2 f 1074)
-          ∙ sym (mul_assoc m (2 ^ f) (2 ^ 1074))
-          ∙ ap (λ (x : ℕ). x * 2 ^ 1074) (sym (normal b f (sym (suc_pred (b / 2 ^ 52) h))));
+      same = rw (normal b f field, moved, pow-add 2 f 1074) (sym (mul_assoc m (2 ^ f) (2 ^ 1074)));
       least = omega arith;
       most = omega arith;
       low = omega arith;
       high = omega arith;
     }
-  where
-    moved : (x : ℕ) → 0 < x → x + 1073 ≡ x - 1 + 1074
-    moved x g = omega arith
 
-joined : (t i j n : ℕ) → i + j ≡ n → t * 2 ^ i * 2 ^ j ≡ t * 2 ^ n
-joined t i j n e = mul_assoc t (2 ^ i) (2 ^ j) ∙ ap (λ (x : ℕ). t * x) (sym (pow-add 2 i j) ∙ ap (λ (x : ℕ). 2 ^ x) e)
+-- the leading digit's weight says how many digits there are
+pub leading_low : (t i : ℕ) → 2 ^ i ≤ t → t < 2 ^ 52 → i < 52
+leading_low t i h l = power_lt i 52 (lt_of_le_of_lt h l)
 
 -- digits that are too few are moved up by as many places as are missing
-short_scales : (t : ℕ) → 0 < t → t < 2 ^ 52 → Scales (t * 2 ^ 1074) (t * 2 ^ (53 - size t)) (1021 + size t)
-short_scales t p l =
-    let z = size t in
-    let z_le : z ≤ 52 = size-le t 52 l in
-    let z_pos : 0 < z = some z (size-lt t) in
-    let lo : 2 ^ (z - 1) ≤ t = size_reaches t (z - 1) (omega arith) in
+pub short_scales : (b i : ℕ) → b / 2 ^ 52 ≡ 0 → 2 ^ i ≤ b % 2 ^ 52 → b % 2 ^ 52 < 2 * 2 ^ i
+    → Scales (exact b) (b % 2 ^ 52 * 2 ^ (52 - i) % 2 ^ 64) (1074 - (52 - i))
+short_scales b i z h g =
+    let t = b % 2 ^ 52 in
+    let l : i < 52 = leading_low t i h (omega arith) in
+    let k = 52 - i in
+    let places : i + k ≡ 52 = omega arith in
+    let whole : 2 ^ i * 2 ^ k ≡ 2 ^ 52 = sym (pow-add 2 i k) ∙ ap (λ (x : ℕ). 2 ^ x) places in
+    let least : 2 ^ i * 2 ^ k ≤ t * 2 ^ k = mul-le-mul_right (2 ^ k) h in
+    let most : t * 2 ^ k < 2 * 2 ^ i * 2 ^ k = mul-lt-mul_of_pos_right g (pow_pos k) in
+    let twice : 2 * 2 ^ i * 2 ^ k ≡ 2 * (2 ^ i * 2 ^ k) = mul_assoc 2 (2 ^ i) (2 ^ k) in
+    let fits : t * 2 ^ k % 2 ^ 64 ≡ t * 2 ^ k = mod-eq_of_lt (omega arith) in
+    let sum : k + (1074 - k) ≡ 1074 = omega arith in
     record {
-      same = joined t (53 - z) (1021 + z) 1074 (omega arith);
-      least = le_trans (le_of_eq (ap (λ (x : ℕ). 2 ^ x) (missing z z_pos z_le) ∙ pow-add 2 (z - 1) (53 - z))) (mul-le-mul_right (2 ^ (53 - z)) lo);
-      most =
-          lt_of_lt_of_le (mul-lt-mul_of_pos_right (size-lt t) (pow_pos (53 - z)))
-          (le_of_eq (sym (pow-add 2 z (53 - z)) ∙ ap (λ (x : ℕ). 2 ^ x) (whole z z_le)));
+      same = rw (fits, subnormal b z, mul_assoc t (2 ^ k) (2 ^ (1074 - k)), ← pow-add 2 k (1074 - k), sum);
+      least = omega arith;
+      most = omega arith;
       low = omega arith;
       high = omega arith;
     }
-  where
-    some : (x : ℕ) → t < 2 ^ x → 0 < x
-    some zero h = absurd (none t p h)
-      where
-        none : (y : ℕ) → 0 < y → y < 1 → ⊥
-        none y a b = omega arith
-    some (suc x) h = zero-lt-suc x
-
-    missing : (x : ℕ) → 0 < x → x ≤ 52 → 52 ≡ x - 1 + (53 - x)
-    missing x a b = omega arith
-
-    whole : (x : ℕ) → x ≤ 52 → x + (53 - x) ≡ 53
-    whole x b = omega arith
 
 pub scales : (b : ℕ) → 0 < b → b < infinity → (m : ℕ) × (e : ℕ) × Scales (exact b) m e
 scales b p l = elim (eq-zero-or-pos (b / 2 ^ 52)) [
-  | inl z ↦ (b % 2 ^ 52 * 2 ^ (53 - size (b % 2 ^ 52)), 1021 + size (b % 2 ^ 52), rw (subnormal b z) (short_scales (b % 2 ^ 52) (omega arith) (omega arith)))
+  | inl z ↦
+      let t = b % 2 ^ 52 in
+      let i = size t - 1 in
+      let s : 0 < size t = some t (omega arith) (size t) (size-lt t) in (
+        t * 2 ^ (52 - i) % 2 ^ 64,
+        1074 - (52 - i),
+        short_scales b i z (size_reaches t i (omega arith)) (rw (twice_pred (size t) s) (size-lt t)),
+      )
   | inr h ↦ (2 ^ 52 + b % 2 ^ 52, b / 2 ^ 52 + 1073, normal_scales b l h)
 ]
+  where
+    some : (t : ℕ) → 0 < t → (x : ℕ) → t < 2 ^ x → 0 < x
+    some t p zero h = absurd (omega arith)
+    some t p (suc x) h = omega arith
 
 -- ---- the exponent made even
-
-pub even_split : (m e k n : ℕ) → m * 2 ^ e ≡ n → e ≡ 52 + (k + k) → n ≡ m * 2 ^ 52 * (2 ^ k * 2 ^ k)
-even_split m e k n h s =
-    sym h
-    ∙ ap (λ (x : ℕ). m * x) (ap (λ (x : ℕ). 2 ^ x) s ∙ pow-add 2 52 (k + k) ∙ ap (λ (x : ℕ). 2 ^ 52 * x) (pow-add 2 k k))
-    ∙ sym (mul_assoc m (2 ^ 52) (2 ^ k * 2 ^ k))
-
-pub odd_split : (m e k n : ℕ) → m * 2 ^ e ≡ n → e ≡ 53 + (k + k) → n ≡ 2 * m * 2 ^ 52 * (2 ^ k * 2 ^ k)
-odd_split m e k n h s =
-    sym h
-    ∙ ap (λ (x : ℕ). m * x) (ap (λ (x : ℕ). 2 ^ x) s ∙ pow-add 2 53 (k + k) ∙ ap (λ (x : ℕ). 2 ^ 53 * x) (pow-add 2 k k))
-    ∙ sym (mul_assoc m (2 ^ 53) (2 ^ k * 2 ^ k))
-    ∙ ap (λ (x : ℕ). x * (2 ^ k * 2 ^ k)) (twice m)
-  where
-    twice : (x : ℕ) → x * 2 ^ 53 ≡ 2 * x * 2 ^ 52
-    twice x = omega arith
 
 -- n is N * 4 ^ k
 pub record Even (n N k : ℕ) : Type 0 where
@@ -96,27 +81,27 @@ pub record Even (n N k : ℕ) : Type 0 where
   pub most : N < 2 ^ 106
   pub small : k ≤ 1600
 
-pub made_even : (n m e : ℕ) → Scales n m e → (N : ℕ) × (k : ℕ) × Even n N k
-made_even n m e s = go (e % 2) refl
+-- an odd exponent's digit goes to the significand
+pub doubled : (n m e : ℕ) → Scales n m e → (2 ^ 52 ≤ m * 2 ^ (e % 2) % 2 ^ 64) × (m * 2 ^ (e % 2) % 2 ^ 64 < 2 ^ 54) × (m * 2 ^ (e % 2) % 2 ^ 64 ≡ m * 2 ^ (e % 2))
+doubled n m e s = go (e % 2) (omega arith)
   where
-    go : (r : ℕ) → e % 2 ≡ r → (N : ℕ) × (k : ℕ) × Even n N k
-    go zero z = (
-      m * 2 ^ 52,
-      (e - 52) / 2,
-      record {
-        same = even_split m e ((e - 52) / 2) n s.same (omega arith);
-        least = omega arith;
-        most = omega arith;
-        small = omega arith;
-      },
-    )
-    go (suc r) z = (
-      2 * m * 2 ^ 52,
-      (e - 52) / 2,
-      record {
-        same = odd_split m e ((e - 52) / 2) n s.same (omega arith);
-        least = omega arith;
-        most = omega arith;
-        small = omega arith;
-      },
-    )
+    go : (j : ℕ) → j < 2 → (2 ^ 52 ≤ m * 2 ^ j % 2 ^ 64) × (m * 2 ^ j % 2 ^ 64 < 2 ^ 54) × (m * 2 ^ j % 2 ^ 64 ≡ m * 2 ^ j)
+    go zero h = (omega arith, omega arith, omega arith)
+    go (suc zero) h = (omega arith, omega arith, omega arith)
+    go (suc (suc j)) h = absurd (omega arith)
+
+pub made_even : (n m e : ℕ) → Scales n m e → Even n (m * 2 ^ (e % 2) % 2 ^ 64 * 2 ^ 52) ((e - 52) / 2)
+made_even n m e s =
+    let j = e % 2 in
+    let k = (e - 52) / 2 in
+    let d = doubled n m e s in
+    let split : e ≡ j + (52 + (k + k)) = omega arith in
+    record {
+      same =
+          sym s.same
+          ∙ ap (λ (x : ℕ). m * 2 ^ x) split
+          ∙ rw (d.2, pow-add 2 j (52 + (k + k)), pow-add 2 52 (k + k), pow-add 2 k k) (simp mul_assoc);
+      least = omega arith;
+      most = omega arith;
+      small = omega arith;
+    }

@@ -1,7 +1,6 @@
 // Reads doubles, a line of the 16 hexadecimal digits of its bits each, and writes each one's root so. A line of another form ends it.
 #![tactic(auto)]
 
-use numerals::ReadDouble;
 use std::io;
 use std::io::{ErrorKind, Read};
 
@@ -28,8 +27,8 @@ fn answer<R: Read>(rt: &HostRuntime, input: &mut R) -> io::Result<bool> {
         return Ok(false);
     }
     match numerals::read_double(&line[..16]) {
-        ReadDouble::Malformed => Ok(false),
-        ReadDouble::Double(x) => {
+        None => Ok(false),
+        Some(x) => {
             let root = numerals::write_double(root::root(x));
             rt.write_all(&root)?;
             rt.write_all(&[10u8])?;

@@ -1,6 +1,6 @@
 pub mod Laws
-mod Opens
-mod Laid
-mod Refusals
 pub mod Reading
-mod Changes
+pub mod Opens
+pub mod Refusals
+pub mod Changes
+pub mod Laid

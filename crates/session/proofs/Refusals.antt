@@ -1,76 +1,44 @@
--- A refusal of the point: declined, the run's end, or the report without a baseline. The proof of `refuse` cites these. Assumes nothing.
-use mathlib.Core.Path.{◌≡◌, refl, sym, ap, ◌∙◌}
-use mathlib.Core.Bool.{Bool, true, false, cond, not, ◌&&◌}
-use mathlib.Core.Option.{none}
-use borrow.Author.Tests.{not-true, not-false, eq-eqb, ne_eqb}
-use lib.Dec.{eqb}
-use Rattle.definition.specs.Run.{done, refuse, refused}
-use Rattle.definition.specs.Session.{after, head, counted, Declines, goes_on, PointRefused}
+-- A refusal of the point: declined, the run's end, or the report without a baseline. Assumes nothing.
+use Rattle.std.proofs.Common.{◌≡◌, refl, ◌∙◌, Option, None, Some}
+use Rattle.definition.specs.Session.{Said, report, refusal, Declines, goes_on, PointRefused}
 use Rattle.definition.proofs.Calls.{refusal_closed, refusal_taken_lem}
-use Rattle.definition.specs.declared.Step.{Step}
-use Rattle.definition.specs.declared.Step.TheVariants.{Report, Refused}
-use Rattle.phases.specs.Phases.{plan_of, finished_with}
-use Rattle.phases.specs.declared.Plan.{Plan}
+use Rattle.definition.specs.declared.Distances.{Distances}
+use Rattle.phases.specs.Phases.{plan_of}
+use Rattle.phases.specs.declared.Lays.{Lays}
+use Rattle.phases.specs.declared.Lays.TheVariants.{Baseline as Drops}
 use Rattle.phases.specs.declared.Phase.TheVariants.{Over, Ended}
-use Rattle.phases.proofs.Taken.{continue_at, point_of, which_of, open_state, refusal_ends}
-use Rattle.lists.proofs.Arrays.{and_both}
-use Rattle.session.specs.Meaning.{held_of, within_of, state, seen}
-use Rattle.session.specs.declared.Body.{Body}
+use Rattle.phases.proofs.Taken.{continue_at, refused_by, refusal_ends}
+use Rattle.session.specs.Meaning.{held_of, state, seen}
 use Rattle.session.specs.declared.Session.{Session}
-use Rattle.session.proofs.Laws.{state_within, state_over, closed}
+use Rattle.session.proofs.Laws.{state_within, state_over, closed, asks_in, open_within, open_in}
 
--- the body without a baseline
-abbrev without_baseline : Body → Body
-without_baseline b = record {
-  shots = b.shots;
-  entered = b.entered;
-  priors = b.priors;
-  wanted = b.wanted;
-  rows = b.rows;
-  progress = b.progress;
-  predicted = b.predicted;
-  baseline = b.baseline;
-  has_baseline = false;
-}
+module _ (s : Session) where
+  pub refuse_declined : (said : Said) (r : Session) → asks_in s ≡ None → Declines seen said r s 8 → PointRefused seen s said r
+  refuse_declined said r n d = refusal_closed seen s said r (state s) refl (closed s n) d
 
-module _ (s : Session) (plan : Plan) (within : Bool) (p : plan ≡ plan_of s.phase s.body.entered) (w : within ≡ within_of s.body) where
-  asks_is : (within && plan.asks) ≡ (within_of s.body && (plan_of s.phase s.body.entered).asks)
-  asks_is = λ i. w i && (p i).asks
+  module _ (list : Distances) (o : asks_in s ≡ Some list) where
+    refused_as : (lays : Option Lays) (said : Said) (r : Session) → (plan_of s.phase s.body.entered).lays ≡ lays
+        → goes_on seen s None (refused_by lays (held_of s.body)) said r → PointRefused seen s said r
+    refused_as lays said r e d =
+        let q = open_in s list o in
+        refusal_taken_lem seen s said r None q.point q.which (continue_at (held_of s.body) s.phase)
+        (state_within s (open_within s list o).0 ∙ q.is)
+        (rw (refusal_ends (held_of s.body) s.phase s.body.entered list (open_within s list o).1, e) d)
 
-  pub refuse_declined : (said : Step) (r : Session) → not (within && plan.asks) ≡ true → Declines seen said r s 8 → PointRefused seen s said r
-  refuse_declined said r n d = refusal_closed seen s said r (state s) refl (closed s (sym asks_is ∙ not-true (within && plan.asks) n)) d
+    pub refuse_baseline : (plan_of s.phase s.body.entered).lays ≡ Some Drops
+        → PointRefused seen s report (record { body = record s.body { baseline = None }; phase = Ended; asked = s.asked })
+    refuse_baseline e = refused_as (Some Drops) report _ e (record {
+      leads = state_within (record { body = record s.body { baseline = None }; phase = Ended; asked = s.asked }) (open_within s list o).0;
+      says = refl;
+      counts = refl;
+      sized = refl;
+    })
 
-  module _ (n : not (within && plan.asks) ≡ false) where
-    is_open : (within_of s.body ≡ true) × ((plan_of s.phase s.body.entered).asks ≡ true)
-    is_open = and_both (within_of s.body) (plan_of s.phase s.body.entered).asks (sym asks_is ∙ not-false (within && plan.asks) n)
-
-    ends : (b : Bool) → eqb plan.row 5 ≡ b → continue_at (held_of s.body) s.phase refused ≡ cond b (done (finished_with (held_of s.body) none))
-        (refuse 10 0)
-    ends b e =
-        refusal_ends (held_of s.body) s.phase s.body.entered is_open.1
-        ∙ ap (λ (t : Bool). cond t (done (finished_with (held_of s.body) none)) (refuse 10 0)) (ap (λ (y : Plan). eqb y.row 5) (sym p) ∙ e)
-
-    by : (said : Step) (r : Session) → goes_on seen s none (continue_at (held_of s.body) s.phase refused) said r → PointRefused seen s said r
-    by said r d =
-        refusal_taken_lem seen s said r none (point_of (held_of s.body) s.phase) (which_of s.phase) (continue_at (held_of s.body) s.phase)
-        (state_within s is_open.0 ∙ open_state (held_of s.body) s.phase s.body.entered is_open.1) d
-
-    pub refuse_baseline : plan.row ≡ 5 → PointRefused seen s Report (record { body = without_baseline s.body; phase = Ended; asked = s.asked })
-    refuse_baseline e =
-        let same = ends true (eq-eqb plan.row 5 e) in
-        by Report _ (record {
-          leads = state_within (record { body = without_baseline s.body; phase = Ended; asked = s.asked }) is_open.0 ∙ ap (after none) (sym same);
-          says = ap head (sym same);
-          counts = ap (counted none s.asked) (sym same);
-          sized = refl;
-        })
-
-    pub refuse_ends : (plan.row ≡ 5 → ⊥) → PointRefused seen s (Refused 10 0) (record { body = s.body; phase = Over; asked = s.asked })
-    refuse_ends e =
-        let same = ends false (ne_eqb plan.row 5 e) in
-        by (Refused 10 0) _ (record {
-          leads = state_over s.body s.asked ∙ ap (after none) (sym same);
-          says = ap head (sym same);
-          counts = ap (counted none s.asked) (sym same);
-          sized = refl;
-        })
+    pub refuse_ends : ((plan_of s.phase s.body.entered).lays ≡ Some Drops → ⊥)
+        → PointRefused seen s (refusal 10 0) (record { body = s.body; phase = Over; asked = s.asked })
+    refuse_ends n = by (plan_of s.phase s.body.entered).lays refl
+      where
+        by : (lays : Option Lays) → (plan_of s.phase s.body.entered).lays ≡ lays
+            → PointRefused seen s (refusal 10 0) (record { body = s.body; phase = Over; asked = s.asked })
+        by (Some Drops) e = absurd (n e)
+        by lays e = refused_as lays (refusal 10 0) _ e (record { leads = state_over s.body s.asked; says = refl; counts = refl; sized = refl })

@@ -1,25 +1,18 @@
 -- A finished run with one requested distance more, fewer or exchanged: its list and the rows of its bands change, and nothing else.
-use Rattle.std.specs.Prelude.{ℕ, ◌≡◌, ◌&&◌, length}
-use Rattle.std.proofs.Math.Option.{Option, none, some}
+use Rattle.std.specs.Prelude.{ℕ, ◌≡◌, ◌&&◌, length, Option, None, Some}
 use Rattle.definition.specs.Likelihood.{Rows}
 use Rattle.definition.specs.Whole.{Edit, placed, renewed}
 use Rattle.definition.specs.declared.Point.{Point}
 use Rattle.lists.specs.Changing.{roomy}
 use Rattle.definition.specs.Session.{State, asking, standing, over, either}
 use Rattle.session.specs.Meaning.{state}
-use Rattle.session.specs.declared.Fitted.{Fitted}
-use Rattle.session.specs.declared.Fitted.TheVariants.{Unfitted, FittedAt}
 use Rattle.session.specs.declared.Session.{Session}
 
 -- the point of the fit and the number of requested distances, where a finished run stands
 abbrev pub fitted_in : State → Option (Point × ℕ)
-fitted_in (asking kept t) = none
-fitted_in (standing c) = some (c.fit.point, length c.requested)
-fitted_in over = none
-
-abbrev pub fitted_says : Fitted → Option (Point × ℕ)
-fitted_says Unfitted = none
-fitted_says (FittedAt p n) = some (p, n)
+fitted_in (asking kept t) = None
+fitted_in (standing c) = Some (c.fit.point, length c.requested)
+fitted_in over = None
 
 -- where no finished run stands, or the edit does not fit its list, nothing changes
 abbrev pub changed_from : State → Session → Edit → Rows → Session → Type 0

@@ -4,110 +4,160 @@
 // written.
 #![tactic(auto)]
 
-ghost use Rattle.std.specs.Prelude.{◌≡◌, take};
-
-use definition::{Distances, NormalPriorV1, Point, Prior, Step, TruingPriorsV1};
+use definition::{
+    Distances, NormalPriorV1, Point, Step, TruingPredictionRequestV1, TruingPriorsV1,
+    UncertaintyTruingRequestV1, WeightedTruingObservationV1,
+};
 use editing::Answer;
-use numerals::ReadCount;
 use numeric::DropUnit;
 use std::io;
 use std::io::{Input, Read};
 
 // The drop at a distance falls with the square of the time of flight, more or less.
-fn solve(mv: f64, bc: f64, range: f64) -> f64 {
-    let t = range * (1.0 + range * 0.0001 / bc) / mv;
+fn solve(p: Point, range: f64) -> f64 {
+    let t = range * (1.0 + range * 0.0001 / p.bc) / p.mv;
     t * t * 1500.0
 }
 
-// The drops at these distances by the formula, in the first places of the array.
-fn solve_each(drops: &mut [f64; 64], ranges: &[f64], mv: f64, bc: f64) {
-    let mut i = 0usize;
-    while i < 64 {
-        if i >= ranges.len() {
-            return;
+// Which solver replies.
+#[derive(Clone, Copy, PartialEq, Eq)]
+enum Solver {
+    Formula,
+    PointMass,
+}
+
+impl Solver {
+    // The entries at these distances, in the first places.
+    fn fill(self, p: Point, ranges: &[f64], entries: &mut [Option<f64>; 64]) {
+        match self {
+            Solver::PointMass => point_mass::fill(p, DropUnit::In, ranges, entries),
+            Solver::Formula => {
+                for i in 0..ranges.len().min(64) {
+                    entries[i] = Some(solve(p, ranges[i]));
+                }
+            }
         }
-        drops[i] = solve(mv, bc, ranges[i]);
-        i += 1;
     }
 }
 
-// The drops at these distances, in the first places of the array, and which are missing; gives how many.
-fn solve_at(
-    solver: u64,
-    drops: &mut [f64; 64],
-    missing: &mut [bool; 64],
-    ranges: &[f64],
-    mv: f64,
-    bc: f64,
-) -> usize {
-    if solver == 1 {
-        point_mass::fill(Point { mv, bc }, DropUnit::In, ranges, drops, missing);
-    } else {
-        solve_each(drops, ranges, mv, bc);
-    }
-    ranges.len()
+// What becomes of the reports: each is written into memory, the last one's line is printed too, or none is written.
+#[derive(Clone, Copy, PartialEq, Eq)]
+enum Reports {
+    Written,
+    LastPrinted,
+    Left,
+}
+
+// What the line of counts asks for.
+#[derive(Clone, Copy)]
+struct Asked {
+    times: u64,
+    observations: usize,
+    distances: usize,
+    solver: Solver,
+    reports: Reports,
 }
 
 fn ranges_from(first: f64, step: f64) -> [f64; 64] {
     let mut ranges = [0.0; 64];
     let mut range = first;
-    let mut i = 0usize;
-    while i < 64 {
-        ranges[i] = range;
+    for place in ranges.iter_mut() {
+        *place = range;
         range += step;
-        i += 1;
     }
     ranges
 }
 
-// An array that was written through a reference is lent as a slice here, where its length is known by its type.
-fn first_drops<'a>(drops: &'a [f64; 64], n: usize) -> &'a [f64] {
-    slices::first_places(drops, n)
-}
-
-fn first_missing<'a>(missing: &'a [bool; 64], n: usize) -> &'a [bool] {
-    slices::first_flags(missing, n)
-}
-
-fn opened<'a>(ranges: &'a [f64], drops: &'a [f64], distances: &'a [f64]) -> Answer {
-    let n = ranges.len();
-    let m = distances.len();
-    let sigmas = [0.5; 64];
-    let future = [0.25; 64];
-    let given = [true; 64];
-    let priors = TruingPriorsV1 {
-        muzzle_velocity_fps: Prior::Normal(NormalPriorV1 {
-            mean: 2700.0,
-            sigma: 60.0,
-        }),
-        ballistic_coefficient: Prior::Absent,
+// The first n of 64 made-up observations: the solver's drops at a point beside the entered one.
+fn measured(solver: Solver, ranges: &[f64; 64]) -> [WeightedTruingObservationV1; 64] {
+    let blank = WeightedTruingObservationV1 {
+        range_yd: 0.0,
+        drop: 0.0,
+        sigma: 0.5,
     };
-    editing::open(
-        Point {
-            mv: 2700.0,
-            bc: 0.4,
-        },
-        ranges,
-        drops,
-        slices::first_places(&sigmas, n),
-        priors,
-        distances,
-        slices::first_places(&future, m),
-        slices::first_flags(&given, m),
-    )
+    let p = Point {
+        mv: 2730.0,
+        bc: 0.41,
+    };
+    let mut entries = [None; 64];
+    solver.fill(p, ranges, &mut entries);
+    let mut observations = [blank; 64];
+    for i in 0..64 {
+        observations[i] = WeightedTruingObservationV1 {
+            range_yd: ranges[i],
+            drop: entries[i].unwrap_or(0.0),
+            sigma: 0.5,
+        };
+    }
+    observations
 }
 
-// The distances of a question; no edit puts one here.
-fn asked_about<'a>(list: Distances, ranges: &'a [f64], distances: &'a [f64]) -> &'a [f64] {
-    match list {
-        Distances::Shots => ranges,
-        Distances::Requested => distances,
-        Distances::New => slices::first_places(distances, 0),
+fn requested(ranges: &[f64; 64]) -> [TruingPredictionRequestV1; 64] {
+    let blank = TruingPredictionRequestV1 {
+        range_yd: 0.0,
+        future_observation_sigma: Some(0.25),
+    };
+    let mut predictions = [blank; 64];
+    for i in 0..64 {
+        predictions[i] = TruingPredictionRequestV1 {
+            range_yd: ranges[i],
+            ..blank
+        };
+    }
+    predictions
+}
+
+// The two lists of distances, and the request made of them.
+#[derive(Clone, Copy)]
+struct Lot {
+    ranges: [f64; 64],
+    distances: [f64; 64],
+    observations: [WeightedTruingObservationV1; 64],
+    predictions: [TruingPredictionRequestV1; 64],
+}
+
+impl Lot {
+    fn new(solver: Solver) -> Lot {
+        let ranges = ranges_from(100.0, 12.5);
+        let distances = ranges_from(150.0, 12.5);
+        Lot {
+            ranges,
+            distances,
+            observations: measured(solver, &ranges),
+            predictions: requested(&distances),
+        }
+    }
+
+    fn opened(&self, asked: Asked) -> Answer {
+        editing::open(UncertaintyTruingRequestV1 {
+            entered: Point {
+                mv: 2700.0,
+                bc: 0.4,
+            },
+            observations: slices::first_places(&self.observations, asked.observations),
+            priors: TruingPriorsV1 {
+                muzzle_velocity_fps: Some(NormalPriorV1 {
+                    mean: 2700.0,
+                    sigma: 60.0,
+                }),
+                ballistic_coefficient: None,
+            },
+            predictions: slices::first_places(&self.predictions, asked.distances),
+        })
+    }
+
+    // The distances of a question; no edit puts one here.
+    fn asked_about(&self, asked: Asked, list: Distances) -> &[f64] {
+        match list {
+            Distances::Shots => slices::first_places(&self.ranges, asked.observations),
+            Distances::Requested => slices::first_places(&self.distances, asked.distances),
+            Distances::New => slices::first_places(&self.distances, 0),
+        }
     }
 }
 
 // How much there was of each, and the bytes of the last report.
-#[derive(Clone, Copy)]
+#[derive(Clone, Copy, Default)]
 struct Total {
     questions: u64,
     bytes: u64,
@@ -115,152 +165,71 @@ struct Total {
 }
 
 // A run, its report written from the start of `out`. The session goes from answer to reply with no copy made here.
-fn run<'a>(
-    out: &mut [u8; 32768],
-    solver: u64,
-    writes: bool,
-    ranges: &'a [f64],
-    measured: &'a [f64],
-    distances: &'a [f64],
-) -> Total {
-    let mut a = opened(ranges, measured, distances);
-    let mut drops = [0.0; 64];
-    let mut missing = [false; 64];
-    let mut left = editing::MAX_QUESTIONS;
-    while left > 0 {
-        let step = a.step;
-        let Step::Question(mv, bc, list) = step else {
+fn run(out: &mut [u8; 32768], asked: Asked, lot: &Lot) -> Total {
+    let mut a = lot.opened(asked);
+    let mut entries = [None; 64];
+    for _ in 0..editing::MAX_QUESTIONS {
+        let Step::Question(mv, bc, list) = a.step else {
             break;
         };
-        let asked = asked_about(list, ranges, distances);
-        let k = solve_at(solver, &mut drops, &mut missing, asked, mv, bc);
-        let reply = first_drops(&drops, k);
-        let flags = first_missing(&missing, k);
-        a = editing::reply(a.session, reply, flags);
-        left -= 1;
+        let ranges = lot.asked_about(asked, list);
+        asked.solver.fill(Point { mv, bc }, ranges, &mut entries);
+        a = editing::reply(a.session, slices::first_places(&entries, ranges.len()));
     }
-    let mut end = 0usize;
-    if writes {
-        end = answer_text::put_answer(out, 0, a);
-    }
+    let last = if asked.reports == Reports::Left {
+        0
+    } else {
+        answer_text::put_answer(out, 0, a)
+    };
     Total {
         questions: editing::asked(a.session),
-        bytes: end as u64,
-        last: end,
-    }
-}
-
-fn count_of(s: &[u8]) -> u64 {
-    match numerals::read_count(s) {
-        ReadCount::Malformed => 0,
-        ReadCount::Count(n) => n,
-    }
-}
-
-// The end of the word that starts at a place.
-fn word_end(s: &[u8], from: usize) -> usize {
-    let mut i = from;
-    while i < s.len() {
-        if s[i] <= 32 {
-            return i;
-        }
-        i += 1;
-    }
-    s.len()
-}
-
-// The count that starts at a place.
-fn count_at(s: &[u8], from: usize) -> u64 {
-    let end = word_end(s, from);
-    if from > end {
-        return 0;
-    }
-    if end > s.len() {
-        return 0;
-    }
-    count_of(&s[from..end])
-}
-
-fn after(s: &[u8], from: usize) -> usize {
-    let end = word_end(s, from);
-    if end < s.len() {
-        return end + 1;
-    }
-    s.len()
-}
-
-fn small(n: u64) -> usize {
-    if n > 64 {
-        return 64;
-    }
-    n as usize
-}
-
-fn runs(out: &mut [u8; 32768], times: u64, n: usize, m: usize, solver: u64, writes: bool) -> Total {
-    let ranges = ranges_from(100.0, 12.5);
-    let distances = ranges_from(150.0, 12.5);
-    let mut drops = [0.0; 64];
-    let mut missing = [false; 64];
-    let k = solve_at(
-        solver,
-        &mut drops,
-        &mut missing,
-        slices::first_places(&ranges, n),
-        2730.0,
-        0.41,
-    );
-    let mut questions = 0u64;
-    let mut bytes = 0u64;
-    let mut last = 0usize;
-    let mut left = times;
-    while left > 0 {
-        let one = run(
-            out,
-            solver,
-            writes,
-            slices::first_places(&ranges, n),
-            first_drops(&drops, k),
-            slices::first_places(&distances, m),
-        );
-        questions = std::num::wrapping_add_u64(questions, one.questions);
-        bytes = std::num::wrapping_add_u64(bytes, one.bytes);
-        last = one.last;
-        left -= 1;
-    }
-    Total {
-        questions,
-        bytes,
+        bytes: last as u64,
         last,
     }
 }
 
-// Where the k-th word starts, counted from 0.
-fn word_start(s: &[u8], k: usize) -> usize {
-    let mut from = 0usize;
-    let mut left = k;
-    while left > 0 {
-        from = after(s, from);
-        left -= 1;
+fn runs(out: &mut [u8; 32768], asked: Asked) -> Total {
+    let lot = Lot::new(asked.solver);
+    let mut total = Total::default();
+    for _ in 0..asked.times {
+        let one = run(out, asked, &lot);
+        total = Total {
+            questions: total.questions.wrapping_add(one.questions),
+            bytes: total.bytes.wrapping_add(one.bytes),
+            last: one.last,
+        };
     }
-    from
+    total
 }
 
-// The k-th count of a line, 0 where there is none.
-fn word(s: &[u8], k: usize) -> u64 {
-    count_at(s, word_start(s, k))
+// The k-th count of a line, counted from 0; 0 where there is none.
+fn word(line: &[u8], k: usize) -> u64 {
+    let found = line.split(|b| *b <= b' ').nth(k);
+    found.and_then(|s| numerals::read_count(s)).unwrap_or(0)
 }
 
-// The runs that a line asks for.
-fn counted(out: &mut [u8; 32768], line: &[u8]) -> Total {
-    let n = small(word(line, 1));
-    let m = small(word(line, 2));
-    let writes = word(line, 4) != 2;
-    runs(out, word(line, 0), n, m, word(line, 3), writes)
+// At most 64.
+fn places(n: u64) -> usize {
+    n.min(64) as usize
 }
 
-fn print_line(rt: &HostRuntime, out: &[u8; 32768], n: usize) -> io::Result<()> {
-    rt.write_all(slices::first_bytes(out, n))?;
-    rt.write_all(&[10u8])
+impl Asked {
+    fn read(line: &[u8]) -> Asked {
+        Asked {
+            times: word(line, 0),
+            observations: places(word(line, 1)),
+            distances: places(word(line, 2)),
+            solver: match word(line, 3) {
+                1 => Solver::PointMass,
+                _ => Solver::Formula,
+            },
+            reports: match word(line, 4) {
+                1 => Reports::LastPrinted,
+                2 => Reports::Left,
+                _ => Reports::Written,
+            },
+        }
+    }
 }
 
 fn main(rt: HostRuntime) -> io::Result<()> {
@@ -268,11 +237,12 @@ fn main(rt: HostRuntime) -> io::Result<()> {
     let mut out = [0u8; 32768];
     let mut input = rt.reader();
     let n = input.read(&mut space)?;
-    let line = slices::first_bytes(&space, n);
-    let total = counted(&mut out, line);
+    let asked = Asked::read(slices::first_places(&space, n));
+    let total = runs(&mut out, asked);
     println!(rt; "{} {}", total.questions, total.bytes)?;
-    if word(line, 4) == 1 {
-        print_line(&rt, &out, total.last)?;
+    if asked.reports == Reports::LastPrinted {
+        rt.write_all(slices::first_places(&out, total.last))?;
+        rt.write_all(b"\n")?;
     }
     Ok(())
 }

@@ -2,7 +2,7 @@
 use Rattle.std.specs.Prelude.{ℕ, min, List, [], ◌∷◌}
 
 -- the least of three lengths: how far three lists are read together
-unfoldable pub shortest_of : ℕ → ℕ → ℕ → ℕ
+abbrev pub shortest_of : ℕ → ℕ → ℕ → ℕ
 shortest_of a b c = min a (min b c)
 
 -- a list with another laid over its first places; it keeps its length

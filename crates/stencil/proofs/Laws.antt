@@ -1,45 +1,16 @@
 -- The five questions over plain values: the rows with one reply more, and what is left of the run then. Assumes nothing.
-use Prim.Native.Nat.{ℕ, zero, suc, ◌≤◌, ◌<◌}
-use mathlib.Core.Path.{◌≡◌, refl, ap, ◌∙◌}
-use mathlib.Core.Bool.{Bool, true, false}
-use mathlib.Core.List.{List, [], ◌∷◌, map}
-use native.Mathlib.Omega.{arith}
-use lib.Dec.{eqb}
-use lib.Ieee.{Float, nan}
-use lib.ListN.{length, take, get_or}
+use Rattle.std.proofs.Common.{ℕ, zero, suc, ◌≤◌, ◌≡◌, refl, ap, ◌∙◌, List, [], ◌∷◌, map, length, take, Option, None, Some, arith}
+use Rattle.std.proofs.Math.ListN.{length-map}
+use Rattle.std.specs.Prelude.{Float}
 use Rattle.definition.specs.Run.{Run, done, refuse, ask, bind, unless, answered, Entry, reading_of, drop_or0, Which}
 use Rattle.definition.specs.Likelihood as likelihood
 use Rattle.definition.specs.Likelihood.{Rows}
 use Rattle.definition.specs.declared.Point.{Point}
-use Rattle.definition.specs.Session.{entries_of}
 use Rattle.slices.specs.Slices.{laid_over}
-use Rattle.likelihood.proofs.Laws.{over_length, over_take, over_zip, drops_length}
-use Rattle.stencil.specs.Stencil.{stencil, stencil_next, point_at, rows_next, five_row, laid_if, laid_pair, nominal_laid, mv_laid, bc_laid, laid_rows, gap_after}
-use Rattle.stencil.specs.Stencil.{one_rows}
-use Rattle.stencil.specs.declared.OneRow.{OneRow}
-
--- ---- which of the five
-
-pub point_past : (k : ℕ) (p : Point) → (k ≡ 0 → ⊥) → (k ≡ 1 → ⊥) → (k ≡ 2 → ⊥) → (k ≡ 3 → ⊥) → likelihood.bc_minus_at p ≡ point_at k p
-point_past zero p n0 n1 n2 n3 = absurd (n0 refl)
-point_past (suc zero) p n0 n1 n2 n3 = absurd (n1 refl)
-point_past (suc (suc zero)) p n0 n1 n2 n3 = absurd (n2 refl)
-point_past (suc (suc (suc zero))) p n0 n1 n2 n3 = absurd (n3 refl)
-point_past (suc (suc (suc (suc k)))) p n0 n1 n2 n3 = refl
-
-pub row_within : (k : ℕ) → k < 4 → k ≡ five_row k
-row_within zero h = refl
-row_within (suc zero) h = refl
-row_within (suc (suc zero)) h = refl
-row_within (suc (suc (suc zero))) h = refl
-row_within (suc (suc (suc (suc k)))) h = absurd (omega arith)
-
-pub row_beyond : (k : ℕ) → 4 ≤ k → 4 ≡ five_row k
-row_beyond zero h = absurd (omega arith)
-row_beyond (suc zero) h = absurd (omega arith)
-row_beyond (suc (suc zero)) h = absurd (omega arith)
-row_beyond (suc (suc (suc zero))) h = absurd (omega arith)
-row_beyond (suc (suc (suc (suc k)))) h = refl
+use Rattle.likelihood.proofs.Laws.{over_length, over_take, over_zip}
+use Rattle.stencil.specs.Stencil.{stencil, stencil_next, point_at, next_of, after_reply, rows_next, laid_rows}
+use Rattle.stencil.specs.declared.StencilPoint.{StencilPoint}
+use Rattle.stencil.specs.declared.StencilPoint.TheVariants.{Nominal, MvPlus, MvMinus, BcPlus, BcMinus}
 
 -- ---- the rows with a reply of n entries
 
@@ -47,121 +18,95 @@ row_beyond (suc (suc (suc (suc k)))) h = refl
 abbrev pub take_rows : ℕ → Rows → Rows
 take_rows n r = record { predicted = take n r.predicted; by_mv = take n r.by_mv; by_bc = take n r.by_bc; gap = r.gap }
 
-module _ (ds : List Float) (ms : List Bool) (same : length ds ≡ length ms) where
+pub drops_length : (es : List Entry) → length (map drop_or0 es) ≡ length es
+drops_length es = length-map es drop_or0
+
+module _ (es : List Entry) where
   -- a reply's drops, laid over a list with a place for each, are its first places
-  pub laid : (a : List Float) → length ds ≤ length a → take (length ds) (laid_over (map drop_or0 (entries_of ds ms)) a) ≡ (reading_of (entries_of ds ms)).drops
-  laid a l = let n = drops_length ds ms in over_take (map drop_or0 (entries_of ds ms)) a (length ds) (omega arith) (omega arith)
+  pub laid : (a : List Float) → length es ≤ length a → take (length es) (laid_over (map drop_or0 es) a) ≡ (reading_of es).drops
+  laid a l = over_take (map drop_or0 es) a (length es) (drops_length es) l
 
-  sloped : (step : Float) (a : List Float) → length ds ≤ length a
-      → take (length ds) (laid_over (likelihood.slopes step a (map drop_or0 (entries_of ds ms))) a) ≡ likelihood.slopes step (take (length ds) a)
-      (reading_of (entries_of ds ms)).drops
-  sloped step a l = let n = drops_length ds ms in over_zip (likelihood.slope step) a (map drop_or0 (entries_of ds ms)) (length ds) (omega arith) (omega arith)
+  sloped : (step : Float) (a : List Float) → length es ≤ length a
+      → take (length es) (laid_over (likelihood.slopes step a (map drop_or0 es)) a) ≡ likelihood.slopes step (take (length es) a) (reading_of es).drops
+  sloped step a l = over_zip (likelihood.slope step) a (map drop_or0 es) (length es) (drops_length es) l
 
-  pub rows_laid : (k : ℕ) (p : Point) (r : Rows) → length ds ≤ length r.predicted → length ds ≤ length r.by_mv → length ds ≤ length r.by_bc
-      → take_rows (length ds) (laid_rows (five_row k) p (entries_of ds ms) r) ≡ rows_next k p (take_rows (length ds) r) (reading_of (entries_of ds ms))
-  rows_laid zero p r x y z =
-      ap (λ (l : List Float). rows_next 0 p (take_rows (length ds) r) (record { drops = l; gap = (reading_of (entries_of ds ms)).gap })) (laid r.predicted x)
-  rows_laid (suc zero) p r x y z =
-      ap (λ (l : List Float). rows_next 1 p (take_rows (length ds) r) (record { drops = l; gap = (reading_of (entries_of ds ms)).gap })) (laid r.by_mv y)
-  rows_laid (suc (suc zero)) p r x y z = λ i. record {
-    predicted = take (length ds) r.predicted;
+  pub rows_laid : (k : StencilPoint) (p : Point) (r : Rows) → length es ≤ length r.predicted → length es ≤ length r.by_mv → length es ≤ length r.by_bc
+      → take_rows (length es) (laid_rows k p es r) ≡ rows_next k p (take_rows (length es) r) (reading_of es)
+  rows_laid Nominal p r x y z =
+      ap (λ (l : List Float). rows_next Nominal p (take_rows (length es) r) (record { drops = l; gap = (reading_of es).gap })) (laid r.predicted x)
+  rows_laid MvPlus p r x y z =
+      ap (λ (l : List Float). rows_next MvPlus p (take_rows (length es) r) (record { drops = l; gap = (reading_of es).gap })) (laid r.by_mv y)
+  rows_laid MvMinus p r x y z = λ i. record {
+    predicted = take (length es) r.predicted;
     by_mv = sloped (likelihood.mv_step_of p.mv) r.by_mv y i;
-    by_bc = take (length ds) r.by_bc;
-    gap = (rows_next 2 p r (reading_of (entries_of ds ms))).gap;
+    by_bc = take (length es) r.by_bc;
+    gap = (rows_next MvMinus p r (reading_of es)).gap;
   }
-  rows_laid (suc (suc (suc zero))) p r x y z =
-      ap (λ (l : List Float). rows_next 3 p (take_rows (length ds) r) (record { drops = l; gap = (reading_of (entries_of ds ms)).gap })) (laid r.by_bc z)
-  rows_laid (suc (suc (suc (suc k)))) p r x y z = λ i. record {
-    predicted = take (length ds) r.predicted;
-    by_mv = take (length ds) r.by_mv;
+  rows_laid BcPlus p r x y z =
+      ap (λ (l : List Float). rows_next BcPlus p (take_rows (length es) r) (record { drops = l; gap = (reading_of es).gap })) (laid r.by_bc z)
+  rows_laid BcMinus p r x y z = λ i. record {
+    predicted = take (length es) r.predicted;
+    by_mv = take (length es) r.by_mv;
     by_bc = sloped (likelihood.bc_step_of p.bc) r.by_bc z i;
-    gap = (rows_next 4 p r (reading_of (entries_of ds ms))).gap;
+    gap = (rows_next BcMinus p r (reading_of es)).gap;
   }
 
--- ---- the row of one distance
+laid_one : (d : Float) (l : List Float) → length l ≡ 1 → laid_over (d ∷ []) l ≡ d ∷ []
+laid_one d [] e = absurd (omega arith)
+laid_one d (x ∷ []) e = refl
+laid_one d (x ∷ y ∷ l) e = absurd (omega arith)
 
-laid_if_length : (here : Bool) (drops a : List Float) → length (laid_if here drops a) ≡ length a
-laid_if_length true drops a = over_length drops a
-laid_if_length false drops a = refl
-
-laid_pair_length : (plus minus : Bool) (step : Float) (drops a : List Float) → length (laid_pair plus minus step drops a) ≡ length a
-laid_pair_length true minus step drops a = over_length drops a
-laid_pair_length false true step drops a = over_length (likelihood.slopes step a drops) a
-laid_pair_length false false step drops a = refl
-
-only : (l : List Float) → length l ≡ 1 → get_or l 0 nan ∷ [] ≡ l
-only [] e = absurd (omega arith)
-only (x ∷ []) e = refl
-only (x ∷ (y ∷ l)) e = absurd (omega arith)
-
-pub one_laid : (k row : ℕ) (p : Point) (es : List Entry) (one : OneRow) (x y z : List Float) (g : ℕ) → row ≡ five_row k
-    → x ≡ nominal_laid row es (one.predicted ∷ []) → y ≡ mv_laid row p es (one.by_mv ∷ []) → z ≡ bc_laid row p es (one.by_bc ∷ [])
-    → g ≡ gap_after row one.gap (reading_of es).gap
-    → one_rows (record { predicted = get_or x 0 nan; by_mv = get_or y 0 nan; by_bc = get_or z 0 nan; gap = g }) ≡ laid_rows (five_row k) p es (one_rows one)
-one_laid k row p es one x y z g r a b c e =
-    let drops = map drop_or0 es in
-    let l = ap length a ∙ laid_if_length (eqb row 0) drops (one.predicted ∷ []) in
-    let m = ap length b ∙ laid_pair_length (eqb row 1) (eqb row 2) (likelihood.mv_step_of p.mv) drops (one.by_mv ∷ []) in
-    let n = ap length c ∙ laid_pair_length (eqb row 3) (eqb row 4) (likelihood.bc_step_of p.bc) drops (one.by_bc ∷ []) in
-    (λ i. record { predicted = (only x l ∙ a) i; by_mv = (only y m ∙ b) i; by_bc = (only z n ∙ c) i; gap = e i })
-    ∙ ap (λ (j : ℕ). laid_rows j p es (one_rows one)) r
+sloped_one : (step d : Float) (l : List Float) → length l ≡ 1 → laid_over (likelihood.slopes step l (d ∷ [])) l ≡ likelihood.slopes step l (d ∷ [])
+sloped_one step d [] e = absurd (omega arith)
+sloped_one step d (x ∷ []) e = refl
+sloped_one step d (x ∷ y ∷ l) e = absurd (omega arith)
 
 -- a reply of one entry, laid over the row of one distance, is read
-pub one_next : (k : ℕ) (p : Point) (ds : List Float) (ms : List Bool) → length ds ≡ 1 → length ms ≡ 1 → (one : OneRow)
-    → laid_rows (five_row k) p (entries_of ds ms) (one_rows one) ≡ rows_next k p (one_rows one) (reading_of (entries_of ds ms))
-one_next k p [] ms l m one = absurd (omega arith)
-one_next k p (d ∷ ds) [] l m one = absurd (omega arith)
-one_next zero p (d ∷ []) (f ∷ []) l m one = refl
-one_next (suc zero) p (d ∷ []) (f ∷ []) l m one = refl
-one_next (suc (suc zero)) p (d ∷ []) (f ∷ []) l m one = refl
-one_next (suc (suc (suc zero))) p (d ∷ []) (f ∷ []) l m one = refl
-one_next (suc (suc (suc (suc k)))) p (d ∷ []) (f ∷ []) l m one = refl
-one_next k p (d ∷ []) (f ∷ g ∷ ms) l m one = absurd (omega arith)
-one_next k p (d ∷ b ∷ ds) (f ∷ ms) l m one = absurd (omega arith)
+pub one_next : (k : StencilPoint) (p : Point) (es : List Entry) → length es ≡ 1 → (r : Rows) → length r.predicted ≡ 1 → length r.by_mv ≡ 1 → length r.by_bc ≡ 1
+    → laid_rows k p es r ≡ rows_next k p r (reading_of es)
+one_next k p [] n r x y z = absurd (omega arith)
+one_next k p (e ∷ f ∷ es) n r x y z = absurd (omega arith)
+one_next Nominal p (e ∷ []) n r x y z =
+    ap (λ (l : List Float). rows_next Nominal p r (record { drops = l; gap = (reading_of (e ∷ [])).gap })) (laid_one (drop_or0 e) r.predicted x)
+one_next MvPlus p (e ∷ []) n r x y z =
+    ap (λ (l : List Float). rows_next MvPlus p r (record { drops = l; gap = (reading_of (e ∷ [])).gap })) (laid_one (drop_or0 e) r.by_mv y)
+one_next MvMinus p (e ∷ []) n r x y z = λ i. record {
+  predicted = r.predicted;
+  by_mv = sloped_one (likelihood.mv_step_of p.mv) (drop_or0 e) r.by_mv y i;
+  by_bc = r.by_bc;
+  gap = (rows_next MvMinus p r (reading_of (e ∷ []))).gap;
+}
+one_next BcPlus p (e ∷ []) n r x y z =
+    ap (λ (l : List Float). rows_next BcPlus p r (record { drops = l; gap = (reading_of (e ∷ [])).gap })) (laid_one (drop_or0 e) r.by_bc z)
+one_next BcMinus p (e ∷ []) n r x y z = λ i. record {
+  predicted = r.predicted;
+  by_mv = r.by_mv;
+  by_bc = sloped_one (likelihood.bc_step_of p.bc) (drop_or0 e) r.by_bc z i;
+  gap = (rows_next BcMinus p r (reading_of (e ∷ []))).gap;
+}
 
 -- ---- one reply more of the five
 
-pub stencil_asks : (k : ℕ) (p : Point) (w : Which) (r : Rows)
+pub stencil_asks : (k : StencilPoint) (p : Point) (w : Which) (r : Rows)
     → stencil k p w r ≡ ask (point_at k p) w (λ reply. bind (answered reply) (λ d. stencil_next k p w (rows_next k p r d)))
 unfolding likelihood.truing_jacobian_rows likelihood.mv_plus likelihood.mv_minus likelihood.bc_plus likelihood.bc_minus
-stencil_asks zero p w r = refl
-stencil_asks (suc zero) p w r = refl
-stencil_asks (suc (suc zero)) p w r = refl
-stencil_asks (suc (suc (suc zero))) p w r = refl
-stencil_asks (suc (suc (suc (suc k)))) p w r = refl
-
-module _ (k : ℕ) (p : Point) (w : Which) (r : Rows) where
-  pub next_of : k < 4 → stencil_next k p w r ≡ stencil (suc k) p w r
-  next_of h = go k h
-    where
-      go : (j : ℕ) → j < 4 → stencil_next j p w r ≡ stencil (suc j) p w r
-      go zero h = refl
-      go (suc zero) h = refl
-      go (suc (suc zero)) h = refl
-      go (suc (suc (suc zero))) h = refl
-      go (suc (suc (suc (suc j)))) h = absurd (omega arith)
-
-  pub last_of : 4 ≤ k → stencil_next k p w r ≡ done r
-  last_of h = go k h
-    where
-      go : (j : ℕ) → 4 ≤ j → stencil_next j p w r ≡ done r
-      go zero h = absurd (omega arith)
-      go (suc zero) h = absurd (omega arith)
-      go (suc (suc zero)) h = absurd (omega arith)
-      go (suc (suc (suc zero))) h = absurd (omega arith)
-      go (suc (suc (suc (suc j)))) h = refl
+stencil_asks Nominal p w r = refl
+stencil_asks MvPlus p w r = refl
+stencil_asks MvMinus p w r = refl
+stencil_asks BcPlus p w r = refl
+stencil_asks BcMinus p w r = refl
 
 -- ---- what is left of a run after a reply to one of the five: a gap is judged after the fifth
 
-module _ {A : Type 0} (k : ℕ) (p : Point) (w : Which) (r : Rows) (number : ℕ) (f : Rows → Run A) where
+module _ {A : Type 0} (k : StencilPoint) (p : Point) (w : Which) (r : Rows) (number : ℕ) (f : Rows → Run A) where
   abbrev pub left : Run A
   left = bind (bind (stencil_next k p w r) (likelihood.complete number)) f
 
-  pub left_more : k < 4 → left ≡ bind (bind (stencil (suc k) p w r) (likelihood.complete number)) f
-  left_more h = ap (λ (t : Run Rows). bind (bind t (likelihood.complete number)) f) (next_of k p w r h)
+  pub left_more : (q : StencilPoint) → next_of k ≡ Some q → left ≡ bind (bind (stencil q p w r) (likelihood.complete number)) f
+  left_more q e = ap (λ (n : Option StencilPoint). bind (bind (after_reply n p w r) (likelihood.complete number)) f) e
 
-  left_last : 4 ≤ k → left ≡ bind (likelihood.complete number r) f
-  left_last h = ap (λ (t : Run Rows). bind (bind t (likelihood.complete number)) f) (last_of k p w r h)
+  left_last : next_of k ≡ None → left ≡ bind (likelihood.complete number r) f
+  left_last e = ap (λ (n : Option StencilPoint). bind (bind (after_reply n p w r) (likelihood.complete number)) f) e
 
   complete_gap : (g : ℕ) → r.gap ≡ g → (g ≡ 0 → ⊥) → likelihood.complete number r ≡ refuse number g
   unfolding likelihood.complete
@@ -172,14 +117,14 @@ module _ {A : Type 0} (k : ℕ) (p : Point) (w : Which) (r : Rows) (number : ℕ
   unfolding likelihood.complete
   complete_whole e = ap (λ (x : ℕ). bind (unless x number) (λ u. done r)) e
 
-  pub left_gap : (g : ℕ) → 4 ≤ k → r.gap ≡ g → (g ≡ 0 → ⊥) → left ≡ refuse number g
+  pub left_gap : (g : ℕ) → next_of k ≡ None → r.gap ≡ g → (g ≡ 0 → ⊥) → left ≡ refuse number g
   left_gap g h e n = left_last h ∙ ap (λ (t : Run Rows). bind t f) (complete_gap g e n)
 
-  pub left_whole : 4 ≤ k → r.gap ≡ 0 → left ≡ f r
+  pub left_whole : next_of k ≡ None → r.gap ≡ 0 → left ≡ f r
   left_whole h e = left_last h ∙ ap (λ (t : Run Rows). bind t f) (complete_whole e)
 
--- the question that is open before the k-th reply
-pub stencil_left : {A : Type 0} (k : ℕ) (p : Point) (w : Which) (r : Rows) (number : ℕ) (f : Rows → Run A)
+-- the question that is open before the reply to one of the five
+pub stencil_left : {A : Type 0} (k : StencilPoint) (p : Point) (w : Which) (r : Rows) (number : ℕ) (f : Rows → Run A)
     → bind (bind (stencil k p w r) (likelihood.complete number)) f
     ≡ ask (point_at k p) w (λ reply. bind (bind (bind (answered reply) (λ d. stencil_next k p w (rows_next k p r d))) (likelihood.complete number)) f)
 stencil_left k p w r number f = ap (λ (t : Run Rows). bind (bind t (likelihood.complete number)) f) (stencil_asks k p w r)

@@ -1,4 +1,5 @@
 -- The input byte by byte. Assumes nothing.
+use Rattle.std.specs.Prelude.{Option, None, Some, is_some}
 use Prim.Native.Nat.{ℕ, ◌+◌, ◌≤◌, ◌<◌, min}
 use mathlib.Core.Path.{◌≡◌, refl, sym, ap, ◌∙◌, subst}
 use mathlib.Core.Bool.{Bool, true, false, cond}
@@ -10,17 +11,18 @@ use lib.Dec.{eqb, leb}
 use lib.ListN.{length, take, drop, set, get_or, length-append, length-set, length-take, drop_of_length-le}
 use lib.Seq.{drop-cons, take_all, take-suc-set, take-append-le}
 use Rattle.lines.specs.Lines.{form_of, words_of, put_first}
-use Rattle.lines.specs.Reading.{start_of, take_of, form_in, short, read_rest, read_all}
+use Rattle.lines.specs.Reading.{start_of, take_of, form_if, short, read_rest, read_all}
 use Rattle.lines.specs.declared.Line.{Line}
 use Rattle.lines.proofs.Lines.{line_form, long_same}
 use Rattle.report_text.specs.Writing.{Text}
 use Rattle.conversation.specs.Conversation.{Conversation, Answered, unended_text, next_line, answer_to, text_of, initial}
 use Rattle.stream.specs.Output.{unended, on_first, lines_of, answers_to, output_of}
-use Rattle.stream.specs.Bytes.{Cut, uncut, cut_byte, cut_from, some, Reads, line_in, ends_in, rest_in, Scans, output_from, Feeds}
+use Rattle.stream.specs.Bytes.{Cut, uncut, cut_byte, cut_from, some, Reads, line_in, ends_in, rest_in, next_in, Scans, output_from, Feeds}
 use Rattle.conversation.specs.Tracks.{Tracks, Fills, Answers}
+use Rattle.conversation.specs.declared.Conversation.{Conversation as Held}
 use Rattle.conversation.proofs.Replies.{answer_short}
-use Rattle.conversation.specs.declared.Replied.{Replied}
-use Rattle.stream.specs.declared.Scanned.{Scanned}
+use Rattle.arrayvec.specs.ArrayVec.{ArrayVec, array_vec_len}
+use Rattle.stream.specs.declared.Fed.{Fed}
 use Rattle.stream.specs.declared.State.{State}
 use Rattle.stream.specs.declared.Reader.{Reader}
 
@@ -36,49 +38,49 @@ in_front_of v [] = v ∷ []
 in_front_of v (w ∷ ws) = (v ++ w) ∷ ws
 
 -- the words that are left, the first of which is the line's first or not
-abbrev read_on : Line → Bool → List (List ℕ) → Line
+abbrev read_on : Option Line → Bool → List (List ℕ) → Option Line
 read_on l f [] = l
 read_on l f (w ∷ []) = take_of l w f true
 read_on l f (w ∷ v ∷ ws) = read_on (take_of l w f false) false (v ∷ ws)
 
-read_rest_lem : (l : Line) (ws : List (List ℕ)) → read_on l false ws ≡ read_rest l ws
+read_rest_lem : (l : Option Line) (ws : List (List ℕ)) → read_on l false ws ≡ read_rest l ws
 read_rest_lem l [] = refl
 read_rest_lem l (w ∷ []) = refl
 read_rest_lem l (w ∷ v ∷ ws) = read_rest_lem (take_of l w false false) (v ∷ ws)
 
-read_all_lem : (ws : List (List ℕ)) → read_on start_of true ws ≡ read_all ws
+read_all_lem : (ws : List (List ℕ)) → read_on (Some start_of) true ws ≡ read_all ws
 read_all_lem [] = refl
 read_all_lem (w ∷ []) = refl
-read_all_lem (w ∷ v ∷ ws) = read_rest_lem (take_of start_of w true false) (v ∷ ws)
+read_all_lem (w ∷ v ∷ ws) = read_rest_lem (take_of (Some start_of) w true false) (v ∷ ws)
 
-abbrev ended : Cut → Line
+abbrev ended : Cut → Option Line
 ended x = take_of x.line x.word x.first true
 
 put_in_front : (v : List ℕ) (c : ℕ) (ws : List (List ℕ)) → in_front_of (v ++ (c ∷ [])) ws ≡ in_front_of v (put_first c ws)
 put_in_front v c [] = refl
 put_in_front v c (w ∷ ws) = ap (λ (x : List ℕ). x ∷ ws) (append_assoc v (c ∷ []) w)
 
-abbrev Some : List (List ℕ) → Type 0
-Some [] = ⊥
-Some (w ∷ ws) = Unit {0}
+abbrev Any : List (List ℕ) → Type 0
+Any [] = ⊥
+Any (w ∷ ws) = Unit {0}
 
-put_some : (c : ℕ) (ws : List (List ℕ)) → Some (put_first c ws)
+put_some : (c : ℕ) (ws : List (List ℕ)) → Any (put_first c ws)
 put_some c [] = tt
 put_some c (w ∷ ws) = tt
 
-words_some : (t : List ℕ) → Some (words_of t)
+words_some : (t : List ℕ) → Any (words_of t)
 words_some [] = tt
 words_some (c ∷ t) = by (eqb c 32)
   where
-    by : (v : Bool) → Some (cond v ([] ∷ words_of t) (put_first c (words_of t)))
+    by : (v : Bool) → Any (cond v ([] ∷ words_of t) (put_first c (words_of t)))
     by true = tt
     by false = put_some c (words_of t)
 
-cut_words : (l : Line) (f : Bool) (v s : List ℕ) → ended (cut_from (record { line = l; first = f; word = v }) s) ≡ read_on l f (in_front_of v (words_of s))
+cut_words : (l : Option Line) (f : Bool) (v s : List ℕ) → ended (cut_from (record { line = l; first = f; word = v }) s) ≡ read_on l f (in_front_of v (words_of s))
 cut_words l f v [] = ap (λ (w : List ℕ). take_of l w f true) (sym (append-nil v))
 cut_words l f v (c ∷ s) = by (eqb c 32) (λ m. cut_words (take_of l v f false) false [] s) (λ m. cut_words l f (v ++ (c ∷ [])) s)
   where
-    opens : (ws : List (List ℕ)) → Some ws → read_on (take_of l v f false) false (in_front_of [] ws) ≡ read_on l f ((v ++ []) ∷ ws)
+    opens : (ws : List (List ℕ)) → Any ws → read_on (take_of l v f false) false (in_front_of [] ws) ≡ read_on l f ((v ++ []) ∷ ws)
     opens [] h = absurd h
     opens (w ∷ ws) h = ap (λ (x : List ℕ). read_on (take_of l x f false) false (w ∷ ws)) (sym (append-nil v))
 
@@ -91,15 +93,15 @@ cut_words l f v (c ∷ s) = by (eqb c 32) (λ m. cut_words (take_of l v f false)
     by true g h = g 0 ∙ opens (words_of s) (words_some s)
     by false g h = h 0 ∙ ap (read_on l f) (put_in_front v c (words_of s))
 
-pub line_is : (s : List ℕ) → form_in (ended (cut_from uncut s)) ≡ short (form_of s)
-line_is s = ap form_in (cut_words start_of true [] s ∙ plain (words_of s) (words_some s)) ∙ line_form s
+pub line_is : (s : List ℕ) → form_if (ended (cut_from uncut s)) ≡ short (form_of s)
+line_is s = ap form_if (cut_words (Some start_of) true [] s ∙ plain (words_of s) (words_some s)) ∙ line_form s
   where
-    plain : (ws : List (List ℕ)) → Some ws → read_on start_of true (in_front_of [] ws) ≡ read_all ws
+    plain : (ws : List (List ℕ)) → Any ws → read_on (Some start_of) true (in_front_of [] ws) ≡ read_all ws
     plain [] h = absurd h
     plain (w ∷ ws) h = read_all_lem (w ∷ ws)
 
 -- of a long word 32 bytes serve
-word_short : (l : Line) (v : List ℕ) (first last : Bool) → take_of l (take 32 v) first last ≡ take_of l v first last
+word_short : (l : Option Line) (v : List ℕ) (first last : Bool) → take_of l (take 32 v) first last ≡ take_of l v first last
 word_short l v first last = by (leb (length v) 32) refl
   where
     by : (b : Bool) → leb (length v) 32 ≡ b → take_of l (take 32 v) first last ≡ take_of l v first last
@@ -115,12 +117,12 @@ module _ (r : Reader) (s : List ℕ) (k : Reads r s) where
   x = cut_from uncut s
 
   took : (last : Bool)
-      → take_of r.line (take r.len r.word) r.first last ≡ take_of (cut_from uncut s).line (cut_from uncut s).word (cut_from uncut s).first last
+      → take_of r.line r.word.items r.first last ≡ take_of (cut_from uncut s).line (cut_from uncut s).word (cut_from uncut s).first last
   took last =
       (λ i. take_of (k.line i) (k.word i) (k.first i) last) ∙ word_short (cut_from uncut s).line (cut_from uncut s).word (cut_from uncut s).first last
 
-  pub ends_line : form_in (take_of r.line (take r.len r.word) r.first true) ≡ short (form_of s)
-  ends_line = ap form_in (took true) ∙ line_is s
+  pub ends_line : form_if (take_of r.line r.word.items r.first true) ≡ short (form_of s)
+  ends_line = ap form_if (took true) ∙ line_is s
 
   module _ (c : ℕ) where
     blank_cut : eqb c 32 ≡ true
@@ -140,52 +142,26 @@ module _ (r : Reader) (s : List ℕ) (k : Reads r s) where
         (record { line = take_of (cut_from uncut s).line (cut_from uncut s).word (cut_from uncut s).first false; first = false; word = [] })
         (record { line = (cut_from uncut s).line; first = (cut_from uncut s).first; word = (cut_from uncut s).word ++ (c ∷ []) })) e
 
-    pub reads_blank : (l : Line) → eqb c 32 ≡ true → l ≡ take_of r.line (take r.len r.word) r.first false
-        → Reads (record { word = r.word; len = 0; first = false; begun = true; line = l }) (s ++ (c ∷ []))
-    reads_blank l e f =
+    pub reads_blank : (l : Option Line) (w : ArrayVec ℕ) → eqb c 32 ≡ true → l ≡ take_of r.line r.word.items r.first false → w.items ≡ []
+        → Reads (record { line = l; word = w; first = false; begun = true }) (s ++ (c ∷ []))
+    reads_blank l w e f g =
         let q = sym (blank_cut e) in
         record {
           line = f ∙ took false ∙ ap (λ (y : Cut). y.line) q;
           first = ap (λ (y : Cut). y.first) q;
           begun = some_more s c;
-          wide = k.wide;
-          count = ap (λ (y : Cut). min 32 (length y.word)) q;
-          word = ap (λ (y : Cut). take 32 y.word) q;
+          word = g ∙ ap (λ (y : Cut). take 32 y.word) q;
         }
 
-    pub reads_full :
-        eqb c 32 ≡ false → 32 ≤ r.len → Reads (record { word = r.word; len = r.len; first = r.first; begun = true; line = r.line }) (s ++ (c ∷ []))
-    reads_full e h =
+    pub reads_more : (w : ArrayVec ℕ) → eqb c 32 ≡ false → w.items ≡ take 32 ((cut_from uncut s).word ++ (c ∷ []))
+        → Reads (record { line = r.line; word = w; first = r.first; begun = true }) (s ++ (c ∷ []))
+    reads_more w e f =
         let q = sym (other_cut e) in
-        let v = (cut_from uncut s).word in
-        let n = k.count in
         record {
           line = k.line ∙ ap (λ (y : Cut). y.line) q;
           first = k.first ∙ ap (λ (y : Cut). y.first) q;
           begun = some_more s c;
-          wide = k.wide;
-          count = omega (arith, k.count, length-append (cut_from uncut s).word (c ∷ [])) ∙ ap (λ (y : Cut). min 32 (length y.word)) q;
-          word = k.word ∙ sym (take-append-le 32 (cut_from uncut s).word (c ∷ []) (omega arith)) ∙ ap (λ (y : Cut). take 32 y.word) q;
-        }
-
-    pub reads_more : eqb c 32 ≡ false → r.len < 32
-        → Reads (record { word = set r.word r.len c; len = r.len + 1; first = r.first; begun = true; line = r.line }) (s ++ (c ∷ []))
-    reads_more e h =
-        let q = sym (other_cut e) in
-        let n = k.count in
-        let w = k.wide in
-        let here : take 32 (cut_from uncut s).word ≡ (cut_from uncut s).word = take_all 32 (cut_from uncut s).word (omega arith) in
-        let there : take 32 ((cut_from uncut s).word ++ (c ∷ [])) ≡ (cut_from uncut s).word ++ (c ∷ []) =
-        take_all 32 ((cut_from uncut s).word ++ (c ∷ [])) (omega (arith, length-append (cut_from uncut s).word (c ∷ []))) in
-        record {
-          line = k.line ∙ ap (λ (y : Cut). y.line) q;
-          first = k.first ∙ ap (λ (y : Cut). y.first) q;
-          begun = some_more s c;
-          wide = length-set r.word r.len c ∙ k.wide;
-          count = omega (arith, k.count, length-append (cut_from uncut s).word (c ∷ [])) ∙ ap (λ (y : Cut). min 32 (length y.word)) q;
-          word =
-              ap (λ (m : ℕ). take m (set r.word r.len c)) (add-one r.len) ∙ take-suc-set r.word r.len c (omega arith)
-              ∙ ap (λ (l : List ℕ). l ++ (c ∷ [])) (k.word ∙ here) ∙ sym there ∙ ap (λ (y : Cut). take 32 y.word) q;
+          word = f ∙ ap (λ (y : Cut). take 32 y.word) q;
         }
 
 -- ---- the first line of what is left
@@ -292,7 +268,7 @@ module _ (bytes : List ℕ) (start : Reader) (at : ℕ) (r : Reader) (i : ℕ) (
           within = λ m. omega arith;
         }
 
-    pub scan_ends : get_or bytes i 0 ≡ 10 → Scans start bytes at (record { reader = r; at = i + 1; ended = true })
+    pub scan_ends : get_or bytes i 0 ≡ 10 → Scans start bytes at r (Some (i + 1))
     scan_ends e =
         let yes : eqb (get_or bytes i 0) 10 ≡ true = eq-eqb (get_or bytes i 0) 10 e in
         let all : k.before ≡ line_in (drop at bytes) =
@@ -307,49 +283,49 @@ module _ (bytes : List ℕ) (start : Reader) (at : ℕ) (r : Reader) (i : ℕ) (
           within = λ m. omega arith;
         }
 
-  pub scan_stops : length bytes ≤ i → Scans start bytes at (record { reader = r; at = i; ended = false })
+  pub scan_stops : length bytes ≤ i → Scans start bytes at r None
   scan_stops h =
       let none : drop i bytes ≡ [] = drop_of_length-le bytes h in
       let all : k.before ≡ line_in (drop at bytes) = sym (append-nil k.before) ∙ ap (λ (l : List ℕ). k.before ++ line_in l) (sym none) ∙ k.split in
       record {
         reads = λ s m. subst (λ (l : List ℕ). Reads r (s ++ l)) all (k.reads s m);
         ends = sym (ap ends_in none) ∙ k.ends;
-        rest = none ∙ sym (ap rest_in none) ∙ k.rest;
-        on = λ m. omega arith;
-        within = k.within;
+        rest = drop_of_length-le bytes (omega arith) ∙ sym (ap rest_in none) ∙ k.rest;
+        on = λ m. m;
+        within = λ m. omega arith;
       }
 
 -- ---- bytes are taken
 
-module _ (h : State) (bytes : List ℕ) (at : ℕ) (q : Scanned) (k : Scans h.reader bytes at q) where
+module _ (h : State) (bytes : List ℕ) (at : ℕ) (q : Reader) where
   pub feed_line :
-      (out after : Text) (l : Line) (a : Replied) (rd : Reader) → q.ended ≡ true → ((s : List ℕ) → Reads q.reader s → form_in l ≡ short (form_of s))
-      → Answers h.conversation l out after a → Reads rd []
-      → Feeds h bytes at out after (record { state = record { reader = rd; conversation = a.conversation }; at = q.at; len = a.len })
-  feed_line out after l a rd e form d z = record {
+      (next : ℕ) (k : Scans h.reader bytes at q (Some next)) (out after : Text) (l : Option Line) (c : Held) (n : ℕ) (rd : Reader)
+      → ((s : List ℕ) → Reads q s → form_if l ≡ short (form_of s)) → Answers h.conversation l out after c n → Reads rd []
+      → Feeds h bytes at out after (record { reader = rd; conversation = c }) (record { at = next; len = n })
+  feed_line next k out after l c n rd form d z = record {
     room = d.room;
     goes = λ t s m.
         let v = s ++ line_in (drop at bytes) in
-        let f : answer_to (next_line t) (form_in l) ≡ answer_to (next_line t) (form_of v) =
+        let f : answer_to (next_line t) (form_if l) ≡ answer_to (next_line t) (form_of v) =
         ap (answer_to (next_line t)) (form v (k.reads s m.reader))
         ∙ answer_short h.conversation.session (next_line t) m.conversation.session (form_of v) in
-        let g : Tracks a.conversation (answer_to (next_line t) (form_of v)).0 × Fills out after a.len (text_of (answer_to (next_line t) (form_of v))) =
-        subst (λ (x : Answered). Tracks a.conversation x.0 × Fills out after a.len (text_of x)) f (d.goes t m.conversation) in
+        let g : Tracks c (answer_to (next_line t) (form_of v)).0 × Fills out after n (text_of (answer_to (next_line t) (form_of v))) =
+        subst (λ (x : Answered). Tracks c x.0 × Fills out after n (text_of x)) f (d.goes t m.conversation) in
         record {
           conversation = (answer_to (next_line t) (form_of v)).0;
           line = [];
           text = text_of (answer_to (next_line t) (form_of v));
           holds = record { conversation = g.0; reader = z };
           fills = g.1;
-          same = λ more. to_line t s (drop at bytes) more (sym k.ends ∙ e) ∙ ap (λ (x : List ℕ). answering t v (x ++ more)) (sym k.rest);
+          same = λ more. to_line t s (drop at bytes) more (sym k.ends) ∙ ap (λ (x : List ℕ). answering t v (x ++ more)) (sym k.rest);
         };
     on = k.on;
     within = k.within;
   }
 
-  pub feed_none : (out : Text) → q.ended ≡ false
-      → Feeds h bytes at out out (record { state = record { reader = q.reader; conversation = h.conversation }; at = q.at; len = 0 })
-  feed_none out e = record {
+  pub feed_none : (k : Scans h.reader bytes at q None) (out : Text)
+      → Feeds h bytes at out out (record { reader = q; conversation = h.conversation }) (record { at = length bytes; len = 0 })
+  feed_none k out = record {
     room = refl;
     goes = λ t s m. record {
       conversation = t;
@@ -358,7 +334,7 @@ module _ (h : State) (bytes : List ℕ) (at : ℕ) (q : Scanned) (k : Scans h.re
       holds = record { conversation = m.conversation; reader = k.reads s m.reader };
       fills = record { stands = refl; counts = refl };
       same =
-          λ more. no_line t s (drop at bytes) more (sym k.ends ∙ e)
+          λ more. no_line t s (drop at bytes) more (sym k.ends)
           ∙ ap (λ (x : List ℕ). output_from t (s ++ line_in (drop at bytes)) (x ++ more)) (sym k.rest);
     };
     on = k.on;

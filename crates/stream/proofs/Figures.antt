@@ -3,23 +3,23 @@ use Prim.Native.Nat.{ℕ}
 use mathlib.Core.Path.{◌≡◌, refl}
 use mathlib.Core.List.{List, [], ◌∷◌, ◌++◌}
 use lib.Ieee.{round, add, sub, mul, div, lt, le, is_nan, of_bits, to_bits}
-use Rattle.numeric.specs.Numeric.{finite, abs_of, max_of}
+use Rattle.numeric.specs.Numeric.{finite, abs_of, max_of, within_of}
 use Rattle.definition.specs.Fit.{gradient_norm_of, flat_of, evaluated, iterate, fit_map}
 use Rattle.definition.specs.Likelihood.{chi_square_of, with_prior_of, with_priors_of, valued, objective, mv_step_of, bc_step_of, mv_plus_at, mv_minus_at, bc_plus_at}
 use Rattle.definition.specs.Likelihood.{bc_minus_at, bc_minus, bc_plus, mv_minus, mv_plus, truing_jacobian_rows, complete, accumulate_of, sums_of}
 use Rattle.definition.specs.Likelihood.{with_prior_gradient_of, from_sums, evaluate}
-use Rattle.definition.specs.Whole.{within_of, positive_of, sound_observation_of, sound_prior_of, sound_requested_of, checked_point, checked_count, checked_measured}
+use Rattle.definition.specs.Whole.{positive_of, sound_observation_of, sound_prior_of, sound_requested_of, checked_point, checked_count, checked_measured}
 use Rattle.definition.specs.Whole.{checked_requested, band_rows, baseline, concluded, banded, fitted, run, whole, edit_questions, edit}
 use Rattle.definition.specs.Session.{more_of}
 use Rattle.numerals.specs.Numbers.{digit_of, glyph_of, double_of, double_text, count_of, count_text}
 use Rattle.words.specs.Words.{bytes}
-use Rattle.lines.specs.Lines.{form_of, entered_of, shot_of, prior_of, distance_of, put_in_of, exchange_of, take_out_of}
-use Rattle.report_text.specs.Texts.{led, joined, bracketed, question_text, declined_text, asked_text, malformed_text}
+use Rattle.lines.specs.Lines.{form_of, entered_of, shot_of, prior_of, distance_of, change_of, take_out_of}
+use Rattle.report_text.specs.Texts.{led, opened, joined, bracketed, question_text, declined_text, asked_text, malformed_text}
 use Rattle.conversation.specs.Conversation.{answer_to}
 use Rattle.stream.specs.Output.{output_of}
 
 lines : ℕ
-unfolding digit_of glyph_of double_of double_text count_of count_text form_of entered_of shot_of prior_of distance_of put_in_of exchange_of take_out_of led joined bracketed
+unfolding digit_of glyph_of double_of double_text count_of count_text form_of entered_of shot_of prior_of distance_of change_of take_out_of led opened joined bracketed
     question_text declined_text asked_text malformed_text more_of answer_to output_of
 lines = 0
 

@@ -34,7 +34,7 @@ one_piece h t s bytes at [] k m = record {
 }
 one_piece h t s bytes at (x ∷ xs) k m =
     let g = m.0.goes t s k in
-    let r = one_piece x.fed.state g.conversation g.line bytes x.fed.at xs g.holds m.1 in
+    let r = one_piece x.state g.conversation g.line bytes x.fed.at xs g.holds m.1 in
     let w : take x.fed.len x.after ≡ g.text = taken g.fills in
     record {
       conversation = r.conversation;

@@ -1,5 +1,5 @@
 -- The bytes of the input as they come, in any pieces: how the code's reader stands for the bytes of the line so far, and what is left to write.
-use Rattle.std.specs.Prelude.{ℕ, min, ◌≤◌, ◌<◌, ◌≡◌, Bool, true, false, cond, List, [], ◌∷◌, ◌++◌, eqb, length, take, drop}
+use Rattle.std.specs.Prelude.{ℕ, ◌≤◌, ◌<◌, ◌≡◌, Bool, true, false, cond, List, [], ◌∷◌, ◌++◌, eqb, length, take, drop, Option, None, Some, is_some}
 use Rattle.lines.specs.Lines.{form_of}
 use Rattle.lines.specs.Reading.{start_of, take_of}
 use Rattle.lines.specs.declared.Line.{Line}
@@ -8,7 +8,6 @@ use Rattle.conversation.specs.Conversation.{Conversation, next_line, answer_to, 
 use Rattle.stream.specs.Output.{unended}
 use Rattle.conversation.specs.Tracks.{Tracks, Fills}
 use Rattle.stream.specs.declared.Reader.{Reader}
-use Rattle.stream.specs.declared.Scanned.{Scanned}
 use Rattle.stream.specs.declared.State.{State}
 use Rattle.stream.specs.declared.Fed.{Fed}
 
@@ -16,12 +15,12 @@ use Rattle.stream.specs.declared.Fed.{Fed}
 
 -- the words that have ended are taken; the last one is open
 pub record Cut : Type 0 where
-  pub line : Line
+  pub line : Option Line
   pub first : Bool
   pub word : List ℕ
 
 abbrev pub uncut : Cut
-uncut = record { line = start_of; first = true; word = [] }
+uncut = record { line = Some start_of; first = true; word = [] }
 
 abbrev pub cut_byte : Cut → ℕ → Cut
 cut_byte x c =
@@ -41,9 +40,7 @@ pub record Reads (r : Reader) (s : List ℕ) : Type 0 where
   pub line : r.line ≡ (cut_from uncut s).line
   pub first : r.first ≡ (cut_from uncut s).first
   pub begun : r.begun ≡ some s
-  pub wide : length r.word ≡ 32
-  pub count : r.len ≡ min 32 (length (cut_from uncut s).word)
-  pub word : take r.len r.word ≡ take 32 (cut_from uncut s).word
+  pub word : r.word.items ≡ take 32 (cut_from uncut s).word
 
 -- ---- the first line of some bytes
 
@@ -60,12 +57,17 @@ abbrev pub rest_in : List ℕ → List ℕ
 rest_in [] = []
 rest_in (c ∷ s) = cond (eqb c 10) s (rest_in s)
 
-pub record Scans (r : Reader) (bytes : List ℕ) (at : ℕ) (q : Scanned) : Type 0 where
-  pub reads : (s : List ℕ) → Reads r s → Reads q.reader (s ++ line_in (drop at bytes))
-  pub ends : q.ended ≡ ends_in (drop at bytes)
-  pub rest : drop q.at bytes ≡ rest_in (drop at bytes)
-  pub on : at < length bytes → at < q.at
-  pub within : at ≤ length bytes → q.at ≤ length bytes
+-- the place behind the line feed, or the end
+abbrev pub next_in : List ℕ → Option ℕ → ℕ
+next_in bytes None = length bytes
+next_in bytes (Some i) = i
+
+pub record Scans (r : Reader) (bytes : List ℕ) (at : ℕ) (q : Reader) (next : Option ℕ) : Type 0 where
+  pub reads : (s : List ℕ) → Reads r s → Reads q (s ++ line_in (drop at bytes))
+  pub ends : is_some next ≡ ends_in (drop at bytes)
+  pub rest : drop (next_in bytes next) bytes ≡ rest_in (drop at bytes)
+  pub on : at < length bytes → at < next_in bytes next
+  pub within : at ≤ length bytes → next_in bytes next ≤ length bytes
 
 -- ---- what is left to write
 
@@ -80,19 +82,19 @@ pub record Holds (h : State) (t : Conversation) (s : List ℕ) : Type 0 where
   pub reader : Reads h.reader s
 
 -- some bytes are taken: what is left to write is what is written now and what is left then, whatever comes after these bytes
-pub record Goes (bytes : List ℕ) (at : ℕ) (out after : Text) (r : Fed) (t : Conversation) (s : List ℕ) : Type 0 where
+pub record Goes (bytes : List ℕ) (at : ℕ) (out after : Text) (h : State) (r : Fed) (t : Conversation) (s : List ℕ) : Type 0 where
   pub conversation : Conversation
   pub line : List ℕ
   pub text : Text
-  pub holds : Holds r.state conversation line
+  pub holds : Holds h conversation line
   pub fills : Fills out after r.len text
   pub same : (more : List ℕ) → output_from t s (drop at bytes ++ more) ≡ text ++ output_from conversation line (drop r.at bytes ++ more)
 
--- The contract of `feed`. A state that `begin` and `feed` did not give, whose fields no host can set, holds no conversation: of it only that the buffer keeps
+-- The contract of `feed`. A state that `new` and `feed` did not give, whose fields no host can set, holds no conversation: of it only that the buffer keeps
 -- its room, and that the bytes are gone on with, is promised.
-pub record Feeds (h : State) (bytes : List ℕ) (at : ℕ) (out after : Text) (r : Fed) : Type 0 where
+pub record Feeds (h : State) (bytes : List ℕ) (at : ℕ) (out after : Text) (k : State) (r : Fed) : Type 0 where
   pub room : length after ≡ length out
-  pub goes : (t : Conversation) (s : List ℕ) → Holds h t s → Goes bytes at out after r t s
+  pub goes : (t : Conversation) (s : List ℕ) → Holds h t s → Goes bytes at out after k r t s
   pub on : at < length bytes → at < r.at
   pub within : at ≤ length bytes → r.at ≤ length bytes
 

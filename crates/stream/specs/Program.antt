@@ -8,10 +8,11 @@ use Rattle.stream.specs.Bytes.{Holds, Feeds, Finishes}
 use Rattle.stream.specs.declared.State.{State}
 use Rattle.stream.specs.declared.Fed.{Fed}
 
--- a call of `feed`: the buffer before it and after it, and what it gave
+-- a call of `feed`: the buffer before it and after it, the state after it, and what it gave
 pub record FeedCall : Type 0 where
   pub out : Text
   pub after : Text
+  pub state : State
   pub fed : Fed
 
 abbrev pub written_by : FeedCall → Text
@@ -20,11 +21,11 @@ written_by x = take x.fed.len x.after
 -- the calls on one piece, each from where the one before stopped, until the piece is used up
 abbrev pub PieceFed : State → List ℕ → ℕ → List FeedCall → Type 0
 PieceFed h bytes at [] = length bytes ≤ at
-PieceFed h bytes at (x ∷ xs) = Feeds h bytes at x.out x.after x.fed × PieceFed x.fed.state bytes x.fed.at xs
+PieceFed h bytes at (x ∷ xs) = Feeds h bytes at x.out x.after x.state x.fed × PieceFed x.state bytes x.fed.at xs
 
 abbrev pub state_after : State → List FeedCall → State
 state_after h [] = h
-state_after h (x ∷ xs) = state_after x.fed.state xs
+state_after h (x ∷ xs) = state_after x.state xs
 
 abbrev pub written : List FeedCall → Text
 written [] = []
@@ -52,7 +53,7 @@ abbrev pub all_written : List Piece → Text
 all_written [] = []
 all_written (p ∷ ps) = written p.calls ++ all_written ps
 
--- Theorem `output`: however the input is cut into pieces, what is written for it, from a state that `begin` gave to what `finish` leaves, is what the
+-- Theorem `output`: however the input is cut into pieces, what is written for it, from a state that `new` gave to what `finish` leaves, is what the
 -- definition says.
 abbrev pub Output : Type 0
 Output =

@@ -1,172 +1,125 @@
 // Standard input as it comes, in any pieces: bytes become lines, and each line gets its answer in a lent buffer.
 #![tactic(auto)]
 
-ghost use Rattle.std.specs.Prelude.{◌≡◌, List, [], ℕ, take};
-ghost use Rattle.lines.specs.Lines.{form_of};
-ghost use Rattle.lines.specs.Reading.{form_in, short};
+ghost use Rattle.std.specs.Prelude.{◌≡◌, List, [], ◌∷◌, ◌++◌, ℕ};
+ghost use Rattle.lines.specs.Reading.{take_of};
 ghost use Rattle.conversation.specs.Conversation.{initial};
 ghost use Rattle.stream.specs.Bytes.{Reads, Scans, Holds, Feeds, Finishes};
 
+use arrayvec::ArrayVec;
 use conversation::Conversation;
 use lines::Line;
 
-// The line that is being read: its words so far and the one that is being read, whether that is the first, and whether the line has a byte. A word of a form
-// has at most 20 bytes, or 22 with both parentheses: of a longer one 32 are kept, so that it stays too long.
-#[derive(Clone, Copy)]
+// The line that is being read: its words so far, if they can still be a form, and the one that is being read, whether that is the first, and whether the line
+// has a byte. A word of a form has at most 20 bytes, or 22 with both parentheses: of a longer one 32 are kept, so that it stays too long.
+#[derive(Drop)]
 pub struct Reader {
-    word: [u8; 32],
-    len: usize,
+    line: Option<Line>,
+    word: ArrayVec<u8, 32>,
     first: bool,
     begun: bool,
-    line: Line,
 }
 
-fn blank_reader() -> Reader
-    ensures { Reads result [] }
+#[tactic(auto, unfolding(lines::specs::Reading::take_of))]
+fn taken(line: Option<Line>, word: &[u8], first: bool, last: bool) -> Option<Line>
+    ensures { result ≡ take_of line word.now first last }
 {
-    Reader {
-        word: [0; 32],
-        len: 0,
-        first: true,
-        begun: false,
-        line: lines::start(),
-    }
+    line?.take(word, first, last)
 }
 
-// A reference to the array asks no proof of its length.
-fn word_of<'a>(w: &'a [u8; 32], n: usize) -> &'a [u8]
-    ensures { result.now ≡ take n w.now }
-{
-    slices::first_bytes(w, n)
-}
-
-// The line ends here.
-fn whole_line(r: Reader) -> Line
-    ensures { (s : List ℕ) → Reads r s → form_in result ≡ short (form_of s) }
-{
-    let len = r.len;
-    let first = r.first;
-    let line = r.line;
-    lines::take(line, slices::first_bytes(&r.word, len), first, true)
-}
-
-#[derive(Clone, Copy)]
-pub struct Scanned {
-    reader: Reader,
-    at: usize,
-    ended: bool,
-}
-
-// From `at` on up to the first line feed, and past it.
-fn scan(r: Reader, bytes: &[u8], at: usize) -> Scanned
-    ensures { Scans r bytes.now at result }
-{
-    let mut word = r.word;
-    let mut len = r.len;
-    let mut first = r.first;
-    let mut begun = r.begun;
-    let mut line = r.line;
-    let mut i = at;
-    while i < bytes.len() {
-        let c = bytes[i];
-        i += 1;
-        if c == 10 {
-            return Scanned {
-                reader: Reader {
-                    word,
-                    len,
-                    first,
-                    begun,
-                    line,
-                },
-                at: i,
-                ended: true,
-            };
-        }
-        begun = true;
-        if c == 32 {
-            line = lines::take(line, word_of(&word, len), first, false);
-            len = 0;
-            first = false;
-        } else if len < 32 {
-            word[len] = c;
-            len += 1;
+impl Reader {
+    fn new() -> Reader
+        ensures { Reads result [] }
+    {
+        Reader {
+            line: Some(Line::new()),
+            word: ArrayVec::new(),
+            first: true,
+            begun: false,
         }
     }
-    Scanned {
-        reader: Reader {
-            word,
-            len,
-            first,
-            begun,
-            line,
-        },
-        at: i,
-        ended: false,
+
+    // A byte of the line more.
+    fn push(&mut self, c: u8)
+        ensures { (s : List ℕ) → Reads self.old s → Reads self.new (s ++ (c ∷ [])) }
+    {
+        self.begun = true;
+        if c == b' ' {
+            self.line = taken(self.line.take(), self.word.as_slice(), self.first, false);
+            self.word.clear();
+            self.first = false;
+        } else {
+            let _ = self.word.try_push(c);
+        }
+    }
+
+    // From `at` on up to the first line feed: the place behind it.
+    fn scan(&mut self, bytes: &[u8], at: usize) -> Option<usize>
+        ensures { Scans self.old bytes.now at self.new result }
+    {
+        for i in at..bytes.len() {
+            let c = bytes[i];
+            if c == b'\n' {
+                return Some(i + 1);
+            }
+            self.push(c);
+        }
+        None
     }
 }
 
-#[derive(Clone, Copy)]
+#[derive(Drop)]
 pub struct State {
     reader: Reader,
     conversation: Conversation,
 }
 
+// Where to go on, and how many bytes are written.
 #[derive(Clone, Copy)]
 pub struct Fed {
-    pub state: State,
     pub at: usize,
     pub len: usize,
 }
 
-pub fn begin() -> State
-    ensures { Holds result initial [] }
-{
-    State {
-        reader: blank_reader(),
-        conversation: conversation::start(),
+impl State {
+    pub fn new() -> State
+        ensures { Holds result initial [] }
+    {
+        State {
+            reader: Reader::new(),
+            conversation: Conversation::new(),
+        }
     }
-}
 
-// Bytes from `at` on, up to the end of a line at most: where to go on, and how many bytes are written.
-pub fn feed(t: State, bytes: &[u8], at: usize, out: &mut [u8; 32768]) -> Fed
-    ensures { Feeds t bytes.now at out.old out.new result }
-{
-    let reader = t.reader;
-    let talk = t.conversation;
-    let got = scan(reader, bytes, at);
-    let next = got.at;
-    let read = got.reader;
-    if got.ended {
-        let a = conversation::answer(talk, whole_line(read), out);
-        let after = a.conversation;
-        return Fed {
-            state: State {
-                reader: blank_reader(),
-                conversation: after,
-            },
-            at: next,
-            len: a.len,
+    // Bytes from `at` on, up to the end of a line at most.
+    pub fn feed(&mut self, bytes: &[u8], at: usize, out: &mut [u8; 32768]) -> Fed
+        ensures { Feeds self.old bytes.now at out.old out.new self.new result }
+    {
+        let Some(next) = self.reader.scan(bytes, at) else {
+            return Fed {
+                at: bytes.len(),
+                len: 0,
+            };
         };
+        let line = taken(
+            self.reader.line.take(),
+            self.reader.word.as_slice(),
+            self.reader.first,
+            true,
+        );
+        self.reader = Reader::new();
+        let len = self.conversation.answer(line, out);
+        Fed { at: next, len }
     }
-    Fed {
-        state: State {
-            reader: read,
-            conversation: talk,
-        },
-        at: next,
-        len: 0,
-    }
-}
 
-// The input ends: a line without its line feed is malformed.
-pub fn finish(t: State, out: &mut [u8; 32768]) -> usize
-    ensures { Finishes t out.old out.new result }
-{
-    let reader = t.reader;
-    let talk = t.conversation;
-    if reader.begun {
-        return conversation::unended(talk, out);
+    // The input ends: a line without its line feed is malformed.
+    pub fn finish(&self, out: &mut [u8; 32768]) -> usize
+        ensures { Finishes self.now out.old out.new result }
+    {
+        if self.reader.begun {
+            self.conversation.unended(out)
+        } else {
+            0
+        }
     }
-    0
 }

@@ -1,35 +1,27 @@
 -- What the answers of this crate say in the definition's terms; and the definition's diagnostics by what the code reads.
 -- proofs/Laws.antt shows that these are the definition's.
-use Rattle.std.specs.Prelude.{ℕ}
-use Rattle.std.proofs.Math.Option.{Option, none, some}
+use Rattle.std.specs.Prelude.{ℕ, Option, None, Some}
 use Rattle.numeric.specs.Numeric.{zero64}
 use Rattle.definition.specs.Mesh.{Convergence}
-use Rattle.definition.specs.Meaning.{number_of}
 use Rattle.definition.specs.Summary.{Approximation, Diagnostics, diagnostics_of}
 use Rattle.definition.specs.declared.Evaluation.{Evaluation}
 use Rattle.definition.specs.declared.TruingMapConvergenceCriterionV1.{TruingMapConvergenceCriterionV1}
-use Rattle.summary.specs.declared.Criterion.{Criterion}
-use Rattle.summary.specs.declared.Criterion.TheVariants.{Absent, Given}
 use Rattle.summary.specs.declared.TruingUncertaintyDiagnosticsV1.{TruingUncertaintyDiagnosticsV1}
-
-abbrev pub criterion_says : Criterion → Option TruingMapConvergenceCriterionV1
-criterion_says Absent = none
-criterion_says (Given c) = some c
 
 abbrev pub diagnostics_says : TruingUncertaintyDiagnosticsV1 → Diagnostics
 diagnostics_says d = record {
   chi_square = d.chi_square;
   prior_penalty = d.prior_penalty;
   penalized_chi_square = d.penalized_chi_square;
-  effective_parameter_count = number_of d.effective_parameter_count;
-  effective_degrees_of_freedom = number_of d.effective_degrees_of_freedom;
-  reduced = number_of d.reduced_chi_square;
+  effective_parameter_count = d.effective_parameter_count;
+  effective_degrees_of_freedom = d.effective_degrees_of_freedom;
+  reduced = d.reduced_chi_square;
   bc_sensitivity_ratio = d.bc_sensitivity_ratio;
   data_condition_number = d.data_condition_number;
   gradient_norm = d.map_scaled_gradient_inf_norm;
-  convergence_criterion = criterion_says d.map_convergence_criterion;
-  objective_poll_radius = number_of d.map_objective_poll_radius;
-  objective_poll_improvement = number_of d.map_max_objective_poll_improvement;
+  convergence_criterion = d.map_convergence_criterion;
+  objective_poll_radius = d.map_objective_poll_radius;
+  objective_poll_improvement = d.map_max_objective_poll_improvement;
   objective_poll_evaluations = d.map_objective_poll_evaluations;
 }
 

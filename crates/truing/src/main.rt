@@ -14,72 +14,54 @@ use stream::{Fed, State};
 fn begin() -> State
     ensures { Holds result initial [] }
 {
-    stream::begin()
+    State::new()
 }
 
 // Bytes from `at` on, up to the end of a line at most.
-fn feed(s: State, bytes: &[u8], at: usize, out: &mut [u8; 32768]) -> Fed
-    ensures { Feeds s bytes.now at out.old out.new result }
+fn feed(s: &mut State, bytes: &[u8], at: usize, out: &mut [u8; 32768]) -> Fed
+    ensures { Feeds s.old bytes.now at out.old out.new s.new result }
 {
-    stream::feed(s, bytes, at, out)
+    s.feed(bytes, at, out)
 }
 
 // The input has ended.
-fn finish(s: State, out: &mut [u8; 32768]) -> usize
-    ensures { Finishes s out.old out.new result }
+fn finish(s: &State, out: &mut [u8; 32768]) -> usize
+    ensures { Finishes s.now out.old out.new result }
 {
-    stream::finish(s, out)
+    s.finish(out)
 }
 
 // ---- the loop
 
 // An answer that cannot be written is dropped.
 fn write_out(rt: &HostRuntime, out: &[u8; 32768], end: usize) {
-    let _written = rt.write_all(slices::first_bytes(out, end)).is_ok();
+    let _written = rt.write_all(slices::first_places(out, end)).is_ok();
 }
 
 // Takes the bytes that were read, and writes each answer out.
-fn take_bytes(rt: &HostRuntime, s: State, bytes: &[u8]) -> State {
+fn take_bytes(rt: &HostRuntime, s: &mut State, bytes: &[u8]) {
     let mut out = [0u8; 32768];
-    let mut state = s;
     let mut at = 0usize;
     while at < bytes.len() {
-        let fed = feed(state, bytes, at, &mut out);
-        let len = fed.len;
-        write_out(rt, &out, len);
-        let next = fed.state;
-        state = next;
+        let fed = feed(s, bytes, at, &mut out);
+        write_out(rt, &out, fed.len);
         at = fed.at;
     }
-    state
 }
 
-#[derive(Clone, Copy)]
-struct Read {
-    state: State,
-    more: bool,
-}
-
-// Reads once, and takes what came. A read that fails counts as the end of the input.
-fn read_some<R: io::Read>(rt: &HostRuntime, input: &mut R, s: State) -> Read {
+// Reads once, and takes what came: whether there may be more. A read that fails counts as the end of the input.
+fn read_some<R: io::Read>(rt: &HostRuntime, input: &mut R, s: &mut State) -> bool {
     let mut space = [0u8; 4096];
-    let Ok(n) = input.read(&mut space) else {
-        return Read {
-            state: s,
-            more: false,
-        };
-    };
-    if n == 0 {
-        return Read {
-            state: s,
-            more: false,
-        };
+    match input.read(&mut space) {
+        Ok(n) if n > 0 => {
+            take_bytes(rt, s, &space[..n]);
+            true
+        }
+        _ => false,
     }
-    let state = take_bytes(rt, s, &space[..n]);
-    Read { state, more: true }
 }
 
-fn end(rt: &HostRuntime, s: State) {
+fn end(rt: &HostRuntime, s: &State) {
     let mut out = [0u8; 32768];
     let len = finish(s, &mut out);
     write_out(rt, &out, len);
@@ -89,15 +71,10 @@ fn end(rt: &HostRuntime, s: State) {
 fn main(rt: HostRuntime) {
     let mut input = rt.reader();
     let mut state = begin();
-    let mut turns = u64::MAX;
-    while turns > 0 {
-        let read = read_some(&rt, &mut input, state);
-        state = read.state;
-        if read.more {
-            turns -= 1;
-        } else {
-            turns = 0;
+    for _ in 0..u64::MAX {
+        if !read_some(&rt, &mut input, &mut state) {
+            break;
         }
     }
-    end(&rt, state);
+    end(&rt, &state);
 }

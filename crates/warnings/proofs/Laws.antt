@@ -1,10 +1,11 @@
 -- The definition's warnings, by the numbers and the lists of numbers that the code reads; and that each occurs at most once, in the order of the source.
 use mathlib.Core.Path.{◌≡◌, refl, ap}
-use mathlib.Core.Bool.{◌||◌}
+use mathlib.Core.Bool.{Bool, true, false, ◌||◌}
 use mathlib.Core.List.{List, [], ◌∷◌, map}
 use native.Mathlib.Omega.{arith}
 use lib.ListN.{length}
-use lib.Ieee.{Float}
+use lib.Ieee.{Float, inf, neg}
+use Rattle.std.specs.List.{list_any}
 use Rattle.definition.specs.Lists.{any}
 use Rattle.definition.specs.Request.{Observation, Requested, Measured}
 use Rattle.definition.specs.Fit.{Fit}
@@ -13,6 +14,15 @@ use Rattle.definition.specs.Summary.{Approximation, Diagnostics, ranges_of, obse
 use Rattle.definition.specs.declared.Evaluation.{Evaluation}
 use Rattle.warnings.specs.Warnings.{codes, nearest_of, farthest_of, outside_of, ill_conditioned_of, mv_dominated_of, bc_dominated_of, interval_crosses_of}
 use Rattle.warnings.specs.Warnings.{warnings_by}
+
+-- `any` is the library's
+pub any_listed : {A : Type 0} (t : A → Bool) (xs : List A) → any t xs ≡ list_any t xs
+any_listed t [] = refl
+any_listed t (x ∷ xs) = ap (λ b. t x || b) (any_listed t xs)
+
+pub neg_infinity : neg (inf false) ≡ inf true
+unfolding neg
+neg_infinity = refl
 
 -- the distances of observations that stand in three lists of one length
 pub observed_ranges : (r d s : List Float) → length d ≡ length r → length s ≡ length r → ranges_of (observations_of r d s) ≡ r
@@ -31,9 +41,9 @@ farthest_observed obs = refl
 
 -- the requested distances as numbers
 abbrev pub distances_of : List Requested → List Float
-distances_of ds = map (λ d. d.range) ds
+distances_of ds = map (λ d. d.range_yd) ds
 
-pub outside_by : (obs : List Observation) (d : Requested) → is_outside obs d ≡ outside_of (observed_min obs) (observed_max obs) d.range
+pub outside_by : (obs : List Observation) (d : Requested) → is_outside obs d ≡ outside_of (observed_min obs) (observed_max obs) d.range_yd
 unfolding outside_of
 outside_by obs d = refl
 

@@ -1,8 +1,7 @@
 -- Which codes the ten truths stand for; and the definition's warnings by the numbers and the lists of numbers that the code reads.
 -- proofs/Laws.antt shows that these are the definition's.
-use Rattle.std.specs.Prelude.{Bool, true, false, not, ◌||◌, Float}
+use Rattle.std.specs.Prelude.{Bool, true, false, not, ◌||◌, Float, Option}
 use mathlib.Core.List.{List, [], foldl}
-use Rattle.std.proofs.Math.Option.{Option}
 use Rattle.std.specs.Float.{inf}
 use Rattle.std.specs.Float.Ieee.{lt}
 use Rattle.numeric.specs.Numeric.{finite}
@@ -10,7 +9,7 @@ use Rattle.definition.specs.Constants.{least_sensitivity_ratio, largest_conditio
 use Rattle.definition.specs.Mesh.{Convergence}
 use Rattle.definition.specs.Summary.{Approximation, nearer, farther, dominated_of, crosses_bounds_of, converged, is_mesh, is_unavailable, where_available, at_most_one}
 use Rattle.definition.specs.Summary.{warn}
-use Rattle.definition.specs.declared.Prior.{Prior}
+use Rattle.definition.specs.declared.NormalPriorV1.{NormalPriorV1}
 use Rattle.definition.specs.declared.TruingPriorsV1.{TruingPriorsV1}
 use Rattle.definition.specs.declared.Evaluation.{Evaluation}
 use Rattle.definition.specs.declared.TruingUncertaintyWarningCodeV1.TheVariants as Warning
@@ -51,10 +50,10 @@ outside_of min max range = lt range min || lt max range
 unfoldable pub ill_conditioned_of : Float → Bool
 ill_conditioned_of condition = not (finite condition) || lt largest_condition condition
 
-unfoldable pub mv_dominated_of : Prior → Approximation → Bool
+unfoldable pub mv_dominated_of : Option NormalPriorV1 → Approximation → Bool
 mv_dominated_of prior a = where_available (λ g. dominated_of prior g.covariance.mv_variance_fps2) a
 
-unfoldable pub bc_dominated_of : Prior → Approximation → Bool
+unfoldable pub bc_dominated_of : Option NormalPriorV1 → Approximation → Bool
 bc_dominated_of prior a = where_available (λ g. dominated_of prior g.covariance.bc_variance) a
 
 unfoldable pub interval_crosses_of : Approximation → Bool
@@ -67,3 +66,16 @@ warnings_by convergence e priors a dof outside =
     (ill_conditioned_of e.data_condition_number)
     (mv_dominated_of priors.muzzle_velocity_fps a) (bc_dominated_of priors.ballistic_coefficient a) (is_unavailable a) (interval_crosses_of a)
     (at_most_one dof) outside
+
+-- whether the warning of a code stands
+abbrev pub stands_in : Warnings → TruingUncertaintyWarningCodeV1 → Bool
+stands_in w Warning.OptimizerDidNotConverge = w.optimizer_did_not_converge
+stands_in w Warning.ObjectiveMeshConvergence = w.objective_mesh_convergence
+stands_in w Warning.WeakBcSensitivity = w.weak_bc_sensitivity
+stands_in w Warning.IllConditionedData = w.ill_conditioned_data
+stands_in w Warning.MvPriorDominated = w.mv_prior_dominated
+stands_in w Warning.BcPriorDominated = w.bc_prior_dominated
+stands_in w Warning.GaussianApproximationUnavailable = w.gaussian_approximation_unavailable
+stands_in w Warning.IntervalCrossesFitBounds = w.interval_crosses_fit_bounds
+stands_in w Warning.LowEffectiveDegreesOfFreedom = w.low_effective_degrees_of_freedom
+stands_in w Warning.PredictionOutsideObservedDomain = w.prediction_outside_observed_domain

@@ -1,3 +1,3 @@
 -- The laws behind the functions' proofs.
 pub mod Rule
-pub mod Rows
+pub mod Found

@@ -3,7 +3,7 @@
 use Rattle.std.specs.Prelude.{ℕ, ◌<◌, ◌≡◌, Bool, true, not, ◌&&◌, List, [], ◌∷◌, leb, ltb, eqb, length}
 use Prim.Native.String.{String}
 use Rattle.words.specs.Words.{bytes, same, is, words, word_at, place_of, place}
-use Rattle.words.specs.Rows.{low}
+use Rattle.words.specs.Low.{low}
 
 -- s is the word at k where its place is k. Theorem `rule`.
 abbrev pub Rule : Type 0
@@ -22,11 +22,11 @@ abbrev pub clean : List ℕ → Bool
 clean [] = true
 clean (c ∷ s) = not (eqb c 32) && clean s
 
--- a word that a row holds
+-- a word of at most 32 bytes, none of them a blank
 abbrev pub fit : List ℕ → Bool
 fit w = leb (length w) 32 && clean w
 
--- the word at each place fits a row. Theorem `all_fit`.
+-- so is the word at each place. Theorem `all_fit`.
 abbrev pub AllFit : Type 0
 AllFit = (k : ℕ) → fit (word_at k) ≡ true
 

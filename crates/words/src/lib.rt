@@ -1,239 +1,184 @@
-// The fixed words of the line protocol, those that are read and those that are written: one table, a word to a row.
+// The fixed words of the line protocol, those that are read and those that are written.
 #![tactic(auto)]
 
-ghost use Rattle.std.specs.Prelude.{◌≡◌, ◌<◌, length, get_or};
-ghost use Rattle.words.specs.Words.{same, words, word_at, place_of};
-ghost use Rattle.words.specs.Rows.{padded, table_of, low};
+ghost use Rattle.std.specs.Prelude.{◌≡◌, find};
+ghost use Rattle.words.specs.Words.{same, place_in, word_at, found};
+ghost use Rattle.words.specs.Low.{low};
 
-// The number of words, which is the place of what is none of them.
-pub const COUNT: usize = 43;
-
-// The places of the words: the numbers of their rows.
-
-pub const ENTERED: usize = 0;
-
-pub const SHOT: usize = 1;
-
-pub const PRIOR: usize = 2;
-
-pub const DISTANCE: usize = 3;
-
-pub const OPEN: usize = 4;
-
-pub const DROPS: usize = 5;
-
-pub const REFUSED: usize = 6;
-
-pub const PUT_IN: usize = 7;
-
-pub const TAKE_OUT: usize = 8;
-
-pub const EXCHANGE: usize = 9;
-
-pub const ASKED: usize = 10;
-
-pub const SPEED: usize = 11;
-
-pub const COEFFICIENT: usize = 12;
-
-pub const PLAIN: usize = 13;
-
-pub const MISSING: usize = 14;
-
-pub const NONE: usize = 15;
-
-pub const YES: usize = 16;
-
-pub const NO: usize = 17;
-
-pub const SCALED_GRADIENT: usize = 18;
-
-pub const OBJECTIVE_MESH: usize = 19;
-
-pub const OPTIMIZER_DID_NOT_CONVERGE: usize = 20;
-
-pub const OBJECTIVE_MESH_CONVERGENCE: usize = 21;
-
-pub const WEAK_BC_SENSITIVITY: usize = 22;
-
-pub const ILL_CONDITIONED_DATA: usize = 23;
-
-pub const MV_PRIOR_DOMINATED: usize = 24;
-
-pub const BC_PRIOR_DOMINATED: usize = 25;
-
-pub const GAUSSIAN_APPROXIMATION_UNAVAILABLE: usize = 26;
-
-pub const INTERVAL_CROSSES_FIT_BOUNDS: usize = 27;
-
-pub const LOW_EFFECTIVE_DEGREES_OF_FREEDOM: usize = 28;
-
-pub const PREDICTION_OUTSIDE_OBSERVED_DOMAIN: usize = 29;
-
-pub const MAP_AT_PARAMETER_BOUND: usize = 30;
-
-pub const RANK_DEFICIENT_INFORMATION: usize = 31;
-
-pub const NON_FINITE_INFORMATION: usize = 32;
-
-pub const AVAILABLE: usize = 33;
-
-pub const UNAVAILABLE: usize = 34;
-
-pub const REPORT: usize = 35;
-
-pub const QUESTION: usize = 36;
-
-pub const SHOTS: usize = 37;
-
-pub const DISTANCES: usize = 38;
-
-pub const NEW: usize = 39;
-
-pub const DECLINED: usize = 40;
-
-pub const MALFORMED: usize = 41;
-
-pub const PAGE: usize = 42;
-
-// A word's bytes: the first `len`, and blanks behind them.
-#[derive(Clone, Copy)]
-pub struct WordText {
-    pub bytes: [u8; 32],
-    pub len: usize,
+// In the order of the table, so that a word's number is its place.
+#[derive(Clone, Copy, PartialEq, Eq)]
+pub enum Word {
+    Entered,
+    Shot,
+    Prior,
+    Distance,
+    Open,
+    Drops,
+    Refused,
+    PutIn,
+    TakeOut,
+    Exchange,
+    Asked,
+    Speed,
+    Coefficient,
+    Plain,
+    Missing,
+    None,
+    Yes,
+    No,
+    ScaledGradient,
+    ObjectiveMesh,
+    OptimizerDidNotConverge,
+    ObjectiveMeshConvergence,
+    WeakBcSensitivity,
+    IllConditionedData,
+    MvPriorDominated,
+    BcPriorDominated,
+    GaussianApproximationUnavailable,
+    IntervalCrossesFitBounds,
+    LowEffectiveDegreesOfFreedom,
+    PredictionOutsideObservedDomain,
+    MapAtParameterBound,
+    RankDeficientInformation,
+    NonFiniteInformation,
+    Available,
+    Unavailable,
+    Report,
+    Question,
+    Shots,
+    Distances,
+    New,
+    Declined,
+    Malformed,
+    Page,
 }
 
-// A row has 32 bytes: a word, and blanks behind it. An array that a function names is built where it is named, so it is made once for each search and then
-// lent.
-fn table() -> [u8; 1376]
-    ensures { result ≡ table_of words }
-{
-    *b"\
-    entered                         \
-    shot                            \
-    prior                           \
-    distance                        \
-    open                            \
-    drops                           \
-    refused                         \
-    put-in                          \
-    take-out                        \
-    exchange                        \
-    asked                           \
-    speed                           \
-    coefficient                     \
-    plain                           \
-    missing                         \
-    none                            \
-    yes                             \
-    no                              \
-    ScaledGradient                  \
-    ObjectiveMesh                   \
-    OptimizerDidNotConverge         \
-    ObjectiveMeshConvergence        \
-    WeakBcSensitivity               \
-    IllConditionedData              \
-    MvPriorDominated                \
-    BcPriorDominated                \
-    GaussianApproximationUnavailable\
-    IntervalCrossesFitBounds        \
-    LowEffectiveDegreesOfFreedom    \
-    PredictionOutsideObservedDomain \
-    MapAtParameterBound             \
-    RankDeficientInformation        \
-    NonFiniteInformation            \
-    Available                       \
-    Unavailable                     \
-    report                          \
-    question                        \
-    shots                           \
-    distances                       \
-    new                             \
-    declined                        \
-    malformed                       \
-    page                            \
-"
-}
+static ALL: [Word; 43] = [
+    Word::Entered,
+    Word::Shot,
+    Word::Prior,
+    Word::Distance,
+    Word::Open,
+    Word::Drops,
+    Word::Refused,
+    Word::PutIn,
+    Word::TakeOut,
+    Word::Exchange,
+    Word::Asked,
+    Word::Speed,
+    Word::Coefficient,
+    Word::Plain,
+    Word::Missing,
+    Word::None,
+    Word::Yes,
+    Word::No,
+    Word::ScaledGradient,
+    Word::ObjectiveMesh,
+    Word::OptimizerDidNotConverge,
+    Word::ObjectiveMeshConvergence,
+    Word::WeakBcSensitivity,
+    Word::IllConditionedData,
+    Word::MvPriorDominated,
+    Word::BcPriorDominated,
+    Word::GaussianApproximationUnavailable,
+    Word::IntervalCrossesFitBounds,
+    Word::LowEffectiveDegreesOfFreedom,
+    Word::PredictionOutsideObservedDomain,
+    Word::MapAtParameterBound,
+    Word::RankDeficientInformation,
+    Word::NonFiniteInformation,
+    Word::Available,
+    Word::Unavailable,
+    Word::Report,
+    Word::Question,
+    Word::Shots,
+    Word::Distances,
+    Word::New,
+    Word::Declined,
+    Word::Malformed,
+    Word::Page,
+];
 
-// The i-th byte of the k-th row; past the table there are blanks.
-fn byte(t: &[u8; 1376], k: usize, i: usize) -> u8
-    requires { (i < 32) × (t.now ≡ table_of words) }
-    ensures { result ≡ get_or (padded (word_at k)) i 0 }
-{
-    if k >= COUNT {
-        return b' ';
-    }
-    t[k * 32 + i]
-}
-
-// Whether s is the k-th word.
-fn is_word<'a>(t: &'a [u8; 1376], s: &'a [u8], k: usize) -> bool
-    requires { t.now ≡ table_of words }
-    ensures { result ≡ same s.now (word_at k) }
-{
-    let n = s.len();
-    if n > 32 {
-        return false;
-    }
-    let mut i = 0usize;
-    while i < n {
-        let b = byte(t, k, i);
-        if (b == b' ') | (s[i] != b) {
-            return false;
+impl Word {
+    #[tactic(auto, unfolding(crate::specs::Words::word_at))]
+    pub fn text(self) -> &'static [u8]
+        ensures { result.now ≡ word_at (place_in self) }
+    {
+        match self {
+            Word::Entered => b"entered",
+            Word::Shot => b"shot",
+            Word::Prior => b"prior",
+            Word::Distance => b"distance",
+            Word::Open => b"open",
+            Word::Drops => b"drops",
+            Word::Refused => b"refused",
+            Word::PutIn => b"put-in",
+            Word::TakeOut => b"take-out",
+            Word::Exchange => b"exchange",
+            Word::Asked => b"asked",
+            Word::Speed => b"speed",
+            Word::Coefficient => b"coefficient",
+            Word::Plain => b"plain",
+            Word::Missing => b"missing",
+            Word::None => b"none",
+            Word::Yes => b"yes",
+            Word::No => b"no",
+            Word::ScaledGradient => b"ScaledGradient",
+            Word::ObjectiveMesh => b"ObjectiveMesh",
+            Word::OptimizerDidNotConverge => b"OptimizerDidNotConverge",
+            Word::ObjectiveMeshConvergence => b"ObjectiveMeshConvergence",
+            Word::WeakBcSensitivity => b"WeakBcSensitivity",
+            Word::IllConditionedData => b"IllConditionedData",
+            Word::MvPriorDominated => b"MvPriorDominated",
+            Word::BcPriorDominated => b"BcPriorDominated",
+            Word::GaussianApproximationUnavailable => b"GaussianApproximationUnavailable",
+            Word::IntervalCrossesFitBounds => b"IntervalCrossesFitBounds",
+            Word::LowEffectiveDegreesOfFreedom => b"LowEffectiveDegreesOfFreedom",
+            Word::PredictionOutsideObservedDomain => b"PredictionOutsideObservedDomain",
+            Word::MapAtParameterBound => b"MapAtParameterBound",
+            Word::RankDeficientInformation => b"RankDeficientInformation",
+            Word::NonFiniteInformation => b"NonFiniteInformation",
+            Word::Available => b"Available",
+            Word::Unavailable => b"Unavailable",
+            Word::Report => b"report",
+            Word::Question => b"question",
+            Word::Shots => b"shots",
+            Word::Distances => b"distances",
+            Word::New => b"new",
+            Word::Declined => b"declined",
+            Word::Malformed => b"malformed",
+            Word::Page => b"page",
         }
-        i += 1;
     }
-    if n == 32 {
-        return true;
+
+    #[tactic(auto, using(crate::proofs::Rule::pointwise_same))]
+    fn is(self, s: &[u8]) -> bool
+        ensures { result ≡ same s.now (word_at (place_in self)) }
+    {
+        s == self.text()
     }
-    byte(t, k, n) == b' '
 }
 
 // Whether s begins before the letters, as numbers mostly do.
 fn is_low(s: &[u8]) -> bool
     ensures { result ≡ low s.now }
 {
-    if s.len() == 0 {
-        return false;
-    }
-    s[0] < 58
+    s.first().is_some_and(|c| *c < b':')
 }
 
-// The place of the word that s is; the number of words where it is none of them.
-pub fn find(s: &[u8]) -> usize
-    ensures { result ≡ place_of s.now }
+// The word that s is.
+#[tactic(auto, using(crate::proofs::Found::found_by, crate::proofs::Found::low_found))]
+pub fn find(s: &[u8]) -> Option<Word>
+    ensures { result ≡ found s.now }
 {
     if is_low(s) {
-        return COUNT;
+        return None;
     }
-    let t = table();
-    let mut k = 0usize;
-    while k < COUNT {
-        if is_word(&t, s, k) {
-            return k;
-        }
-        k += 1;
-    }
-    COUNT
+    search(s)
 }
 
-// The word at a place, of no bytes past the table.
-pub fn word(k: usize) -> WordText
-    ensures { (result.bytes ≡ padded (word_at k)) × (result.len ≡ length (word_at k)) }
+fn search(s: &[u8]) -> Option<Word>
+    ensures { result ≡ find (λ w. same s.now (word_at (place_in w))) ALL }
 {
-    let t = table();
-    let mut out = [b' '; 32];
-    let mut i = 0usize;
-    while i < 32 {
-        let b = byte(&t, k, i);
-        if b == b' ' {
-            return WordText { bytes: out, len: i };
-        }
-        out[i] = b;
-        i += 1;
-    }
-    WordText {
-        bytes: out,
-        len: 32,
-    }
+    ALL.iter().copied().find(|w| w.is(s))
 }

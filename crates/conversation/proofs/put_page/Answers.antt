@@ -1,13 +1,12 @@
 -- `conversation::put_page` meets its contract. Assumes nothing.
-use Rattle.conversation.proofs.Responses.{page_head}
-use Rattle.report_text.proofs.Writing.{then, as_text, same_room}
+use Rattle.std.proofs.Common.{ap, ◌∙◌, ◌++◌}
+use Rattle.report.specs.Reading.{report_in}
+use Rattle.editing.specs.Meaning.{state}
+use Rattle.page_text.specs.Page.{page_in}
+use Rattle.report_text.proofs.Writing.{then, as_text}
+use Rattle.answer_text.specs.Answers.{line}
+use Rattle.conversation.proofs.Responses.{page_word, page_head}
 use Rattle.conversation.proofs.put_page.Goals as goal
 
-pub shape_of-out : goal.shape_of-out
-shape_of-out c =
-    same_room (then c.put_page_count-at.ensures (then c.put_byte-at.ensures c.put_page.ensures))
-
 pub returns : goal.returns
-returns c =
-    as_text (then c.put_page_count-at.ensures (then c.put_byte-at.ensures c.put_page.ensures)) (page_head _ _ _
-    c.lines.ensures)
+returns c = as_text (then c.put_count-at.ensures c.put_page.ensures) (page_head _ _ (page_in (report_in (state c.args.session))) c.lines.ensures)

@@ -1,15 +1,7 @@
--- `refuse_new`: where the edit has a question open.
-use mathlib.Core.Path.{sym, ap, ◌∙◌}
-use Rattle.editing.specs.Meaning.{point_says}
-use Rattle.editing.proofs.Calls.{no_refusal, point_refused}
+-- `refuse_new`: the point of an open edit is refused.
+use Rattle.std.proofs.Common.{sym}
+use Rattle.editing.proofs.Laws.{point_refused}
 use Rattle.editing.proofs.refuse_new.Goals as goal
 
-pub returns-in-Absent : goal.returns-in-Absent
-returns-in-Absent c =
-    no_refusal c.args.run c.args.asking _
-    (sym c.open_point.ensures ∙ ap point_says c.in-Absent.is) c.declined.ensures
-
-pub returns-in-Here : goal.returns-in-Here
-returns-in-Here c =
-    point_refused c.args.run c.args.asking _ (sym c.open_point.ensures ∙ ap point_says c.in-Here.is) _
-    c.closed_with.ensures
+pub returns-in-Some : goal.returns-in-Some
+returns-in-Some c = rw (c.closed_with.ensures, c.refused.ensures) (point_refused c.args.run c.args.asking _ (sym c.in-Some.ensures))

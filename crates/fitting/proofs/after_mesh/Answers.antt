@@ -1,12 +1,13 @@
--- `after_mesh`: the poll from its first pass.
-use mathlib.Core.Path.{◌∙◌}
-use Rattle.fitting.proofs.Laws.{mesh_poll}
+-- `after_mesh`: the poll from its first pass, which has no evaluation yet.
+use Rattle.std.proofs.Common.{ap, ◌∙◌}
+use Rattle.definition.specs.Mesh.{Pass}
+use Rattle.definition.specs.Fit.{meshed}
+use Rattle.fitting.proofs.Laws.{bind_assoc}
 use Rattle.fitting.proofs.after_mesh.Goals as goal
 
 pub returns : goal.returns
+unfolding meshed
 returns c =
-    record {
-      leads = λ m ds rows q.
-          c.next_look.ensures.leads m ds
-          ∙ mesh_poll c.args.g c.args.e m ds rows q c.first_pass-pass.result c.first_pass-pass.ensures;
-    }
+    let e = c.first-pass.ensures in
+    let none = ap (λ (x : Pass). x.evaluations) e in
+    record { leads = λ m ds rows q. c.next_look.ensures.leads m ds ∙ simp e (simp (none, q, bind_assoc)) }

@@ -1,13 +1,17 @@
--- `next_iteration`: by whether an iteration is left.
-use Rattle.fitting.proofs.Laws.{last_iteration, another_iteration}
+-- `next_iteration` with an iteration left: one more is begun.
+use Rattle.std.proofs.Common.{arith, ◌-◌}
+use Rattle.fitting.specs.Meaning.{left_of, iterations_of}
+use Rattle.fitting.proofs.Laws.{bind_assoc, some_left}
 use Rattle.fitting.proofs.next_iteration.Goals as goal
-
-pub returns-then-g-eq0 : goal.returns-then-g-eq0
-returns-then-g-eq0 c = record { leads = λ m ds. last_iteration c.args.g m ds c.if-g-eq0.true }
 
 pub returns : goal.returns
 returns c =
+    let g = c.args.g in
+    let k = c.iterations_left-left.result - 1 in
     record {
-      leads = λ m ds. another_iteration c.args.g c.iterations_left-left.result m ds c.if-g-eq0.false
-          c.iterations_left-left.ensures;
+      leads = λ m ds.
+          simp (
+            some_left m (left_of g) (100 - (100 - k)) (iterations_of g) (100 - k) g.point g.current g.damping (omega arith) (omega arith),
+            bind_assoc,
+          );
     }

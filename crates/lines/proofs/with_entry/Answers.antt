@@ -1,11 +1,12 @@
 -- `lines::with_entry` meets its contract. Assumes nothing.
+use Rattle.std.proofs.Common.{ap, ◌∙◌, Some}
+use Rattle.lines.specs.Reading.{entries_with}
+use Rattle.lines.proofs.Pushing.{pushed}
 use Rattle.lines.proofs.with_entry.Goals as goal
 
-pub returns-in-Malformed : goal.returns-in-Malformed
-returns-in-Malformed c = simp (← c.entry.ensures, c.in-Malformed.is)
-
-pub returns-in-Missing : goal.returns-in-Missing
-returns-in-Missing c = simp (← c.entry.ensures, c.in-Missing.is, ← c.push.ensures)
-
-pub returns-in-Given : goal.returns-in-Given
-returns-in-Given c = simp (← c.entry.ensures, c.in-Given.is, ← c.push-in-Given.ensures)
+pub returns : goal.returns
+returns c =
+    let e = c.try_push.ensures in
+    let old = c.in_ok-entries.entries in
+    rw c.in_ok-entries.was
+    (ap Some (pushed 65 old c.try_push.new.self c.in_ok-or.field-0 c.try_push.result e.variant e.ok e.err e.full) ∙ ap (entries_with (Some old)) c.in_ok-or.ensures)

@@ -5,7 +5,7 @@ use native.Mathlib.Numerals.{add-one}
 use native.Mathlib.Omega.{arith}
 use borrow.Author.Tests.{lt-ltb}
 use lib.ListN.{drop}
-use Rattle.numerals.specs.Numbers.{within64, says_count}
+use Rattle.numerals.specs.Numbers.{within64}
 use Rattle.numerals.proofs.Numbers.{read_on_lem, read_off, read_end, next_is, next_fits, over_is, over_stays}
 use Rattle.numerals.proofs.number.Goals as goal
 
@@ -24,7 +24,7 @@ returns-in_default c =
     let l = c.loop-i in
     let d = c.digit-d in
     let x = a.base * l.m + d.result in
-    let over = over_is x (sym (ap says_count c.in_default.is) ∙ c.longer.ensures) in
+    let over = over_is x (sym (c.in_default.is) ∙ c.longer.ensures) in
     let on = read_on_lem a.base l.m a.s.now l.i (omega arith) (rw d.ensures at c.if-d-base.false) in
     sym (l.invariant.2
     ∙ ap within64 (rw (← d.ensures) at on)
@@ -36,8 +36,8 @@ loop-i-preserved c =
     let l = c.loop-i in
     let d = c.digit-d in
     let x = a.base * l.m + d.result in
-    let n = c.in-Count.next in
-    let said = sym (ap says_count c.in-Count.is) ∙ c.longer.ensures in
+    let n = c.in-Some.next in
+    let said = sym (c.in-Some.is) ∙ c.longer.ensures in
     let on = read_on_lem a.base l.m a.s.now l.i (omega arith) (rw d.ensures at c.if-d-base.false) in
     (omega arith, next_fits x n said, rw (add-one, next_is x n said) (l.invariant.2 ∙ ap within64 (rw (← d.ensures) at on)))
 

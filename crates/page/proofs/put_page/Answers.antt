@@ -1,34 +1,10 @@
--- `put_page`: where a report stands.
-use mathlib.Core.Path.{sym, ap, subst}
-use Rattle.editing.specs.Meaning.{state}
-use Rattle.report.specs.Reading.{Shows, report_in}
-use Rattle.report.specs.declared.Shown.{Shown}
-use Rattle.report_text.proofs.Writing.{as_text, same_room}
-use Rattle.answer_text.proofs.Laws.{none_stands}
-use Rattle.page_text.specs.Page.{page_in}
-use Rattle.page.proofs.Laws.{one_stands}
+-- `page::put_page` meets its contract. Assumes nothing.
+use Rattle.std.proofs.Common.{rules}
+use Rattle.report_text.proofs.Putting.{lent}
 use Rattle.page.proofs.put_page.Goals as goal
 
-pub shape_of-out-in-Absent : goal.shape_of-out-in-Absent
-shape_of-out-in-Absent c = same_room c.put_bytes.ensures
-
-pub returns-in-Absent : goal.returns-in-Absent
-returns-in-Absent c =
-    let s = c.args.s in
-    as_text c.put_bytes.ensures
-    (sym (ap page_in (none_stands (report_in (state s))
-    (subst (λ (x : Shown). Shows x (report_in (state s))) c.in-Absent.is c.report.ensures.is))))
-
-pub shape_of-out-in-Given : goal.shape_of-out-in-Given
-shape_of-out-in-Given c =
-    let s = c.args.s in
-    same_room (one_stands _ (report_in (state s))
-    (subst (λ (x : Shown). Shows x (report_in (state s))) c.in-Given.is c.report.ensures.is)
-    c.put_given.ensures)
-
-pub returns-in-Given : goal.returns-in-Given
-returns-in-Given c =
-    let s = c.args.s in
-    one_stands _ (report_in (state s))
-    (subst (λ (x : Shown). Shows x (report_in (state s))) c.in-Given.is c.report.ensures.is)
-    c.put_given.ensures
+pub returns : goal.returns
+returns c =
+    lent c.new-w.result c.write_page.new.w c.write_page.ensures c.new-w.ensures.same_reference c.new-w.ensures.same_bytes c.new-w.ensures.begun
+    (search rules)
+    c.at.ensures

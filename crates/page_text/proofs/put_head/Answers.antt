@@ -1,14 +1,9 @@
 -- `page_text::put_head` meets its contract. Assumes nothing.
-use Rattle.report_text.proofs.Writing.{then, as_text, same_room}
-use Rattle.page_text.specs.Pieces.{head_text}
-use mathlib.Core.Path.{refl}
+use Rattle.report_text.specs.Writer.{held}
+use Rattle.page_text.specs.Page.{speed_line, coefficient_line, chi_square_line}
+use Rattle.page_text.proofs.Laws.{head_put}
 use Rattle.page_text.proofs.put_head.Goals as goal
 
-pub shape_of-out : goal.shape_of-out
-shape_of-out c =
-    same_room (then c.put_speed-at.ensures (then c.put_coefficient-at.ensures c.put_chi_square.ensures))
-
 pub returns : goal.returns
-unfolding head_text
-returns c =
-    as_text (then c.put_speed-at.ensures (then c.put_coefficient-at.ensures c.put_chi_square.ensures)) (refl)
+unfolding speed_line coefficient_line chi_square_line
+returns c = cc (head_put c.args.h (held c.args.w.now))

@@ -4,4 +4,4 @@ use Rattle.report_parts.proofs.Laws.{counts_bands}
 use Rattle.report_parts.proofs.bands_count.Goals as goal
 
 pub returns : goal.returns
-returns c = counts_bands c.args.wanted c.args.table (search rules) (search rules) (search rules) (search rules) (search rules)
+returns c = counts_bands c.args.wanted c.args.table (search rules) (search rules) (search rules) (search rules)

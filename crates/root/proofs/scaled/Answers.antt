@@ -1,11 +1,11 @@
--- `root::scaled` meets its contract: a pattern's number is its digits, by whether the exponent's field is 0. Assumes nothing.
+-- `root::scaled` meets its contract. Assumes nothing.
+use Prim.Native.Nat.{◌%◌, ◌^◌}
 use native.Mathlib.Omega.{arith}
-use Rattle.root.proofs.Patterns.{subnormal}
-use Rattle.root.proofs.Scaling.{normal_scales}
+use Rattle.root.proofs.Scaling.{leading_low, short_scales}
 use Rattle.root.proofs.scaled.Goals as goal
 
-pub returns-then-field-eq0 : goal.returns-then-field-eq0
-returns-then-field-eq0 c = rw (subnormal c.args.b (omega arith)) c.normalized.ensures
+pub overflow_sub-k : goal.overflow_sub-k
+overflow_sub-k c = omega (arith, leading_low (c.args.b % 2 ^ 52) c.ilog2.result c.ilog2.ensures.power_le (omega arith))
 
-pub returns : goal.returns
-returns c = normal_scales c.args.b (omega arith) (omega arith)
+pub returns-then-field-eq0 : goal.returns-then-field-eq0
+returns-then-field-eq0 c = short_scales c.args.b c.ilog2.result (omega arith) c.ilog2.ensures.power_le c.ilog2.ensures.next_power_gt

@@ -1,6 +1,0 @@
--- `say_bands` ends: the measure is what is left.
-use Rattle.std.proofs.Common.{◌-◌}
-use Rattle.demo.proofs.meaning.say_bands.Given as goal
-
-abbrev pub decreases-loop-i : goal.decreases-loop-i
-decreases-loop-i l = l.n - l.i

@@ -1,0 +1,38 @@
+-- `chi_square` meets its contract: the sum is that of the first `i` observations. Assumes nothing.
+use Rattle.std.proofs.Common.{ℕ, suc, ◌+◌, ◌<◌, ◌≡◌, List, length, get_or, take, sym, ap, arith, add-one, ◌∙◌}
+use Rattle.std.specs.Prelude.{Float}
+use Rattle.std.specs.Float.{nan}
+use Rattle.numeric.specs.Numeric.{zero64}
+use Rattle.definition.specs.Lists.{fold_pairs}
+use Rattle.definition.specs.Request.{Observation}
+use Rattle.definition.specs.Likelihood.{with_shot, chi_square_of}
+use Rattle.definition.specs.Meaning.{observation_of, observations_of}
+use Rattle.likelihood.proofs.Laws.{fold_suc, fold_all, zip3_at, zip3_within}
+use Rattle.likelihood.proofs.Columns.chi_square.Goals as goal
+
+module _ (rs ds ss ps : List Float) (i : ℕ) where
+  abbrev up_to : ℕ → Float
+  up_to k = fold_pairs with_shot zero64 (take k (observations_of rs ds ss)) (take k ps)
+
+  one_more : i < length (observations_of rs ds ss) → i < length ps
+      → with_shot (up_to i) (observation_of (get_or rs i nan) (get_or ds i nan) (get_or ss i nan)) (get_or ps i nan) ≡ up_to (suc i)
+  one_more g h =
+      let w = zip3_within observation_of rs ds ss in
+      let q = observation_of nan nan nan in
+      sym (fold_suc with_shot zero64 (observations_of rs ds ss) ps i q nan g h
+      ∙ ap (λ (o : Observation). with_shot (up_to i) o (get_or ps i nan))
+      (zip3_at observation_of rs ds ss i q nan nan nan (omega arith) (omega arith) (omega arith)))
+
+pub loop-i-preserved : goal.loop-i-preserved
+loop-i-preserved c =
+    let s = c.args.self in
+    let l = c.len.ensures.len in
+    rw (add-one, c.loop-i.invariant) (one_more s.ranges.now s.drops.now s.sigmas.now c.args.predicted.now c.loop-i.i (omega arith) (omega arith))
+
+pub returns : goal.returns
+unfolding chi_square_of
+returns c =
+    let s = c.args.self in
+    let l = c.len.ensures.len in
+    c.loop-i.invariant
+    ∙ fold_all with_shot zero64 (observations_of s.ranges.now s.drops.now s.sigmas.now) c.args.predicted.now c.loop-i.i (omega arith)

@@ -1,6 +1,0 @@
--- `raised_far` meets its contract, by its definition. Assumes nothing.
-use mathlib.Core.Path.{refl}
-use Rattle.map_fit.proofs.raised_far.Goals as goal
-
-pub returns : goal.returns
-returns c = refl

@@ -1,7 +1,0 @@
--- `is_within` meets its contract, by the law of finite. Assumes nothing.
-use Rattle.definition.specs.Whole.{within_of}
-use Rattle.point_mass.proofs.is_within.Goals as goal
-
-pub returns : goal.returns
-unfolding within_of
-returns c = simp (← c.is_finite.ensures)

@@ -1,9 +1,0 @@
--- `report_text::led_number` meets its contract. Assumes nothing.
-use Rattle.report_text.proofs.Writing.{then, same_room}
-use Rattle.report_text.proofs.led_number.Goals as goal
-
-pub shape_of-out : goal.shape_of-out
-shape_of-out c = same_room (then c.put_byte-at.ensures c.put_number.ensures)
-
-pub returns : goal.returns
-returns c = (then c.put_byte-at.ensures c.put_number.ensures)

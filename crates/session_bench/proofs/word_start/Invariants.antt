@@ -1,5 +1,0 @@
--- `word_start` ends: the measure is what is left.
-use Rattle.session_bench.proofs.word_start.Given as goal
-
-abbrev pub decreases-loop-left : goal.decreases-loop-left
-decreases-loop-left l = l.left
