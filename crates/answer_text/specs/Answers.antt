@@ -8,7 +8,7 @@ use Rattle.report.specs.declared.TruingBaselineV1.{TruingBaselineV1}
 use Rattle.report.specs.declared.UncertaintyTruingReportV1.{UncertaintyTruingReportV1}
 use Rattle.editing.specs.Meaning.{state}
 use Rattle.editing.specs.declared.Session.{Session}
-use Rattle.editing.specs.declared.Answer.{Answer}
+use Rattle.editing.specs.Meaning.{Answer}
 use Rattle.numerals.specs.Numbers.{double_text}
 use Rattle.report_text.specs.Writing.{Text}
 use Rattle.report_text.specs.Lists.{present}

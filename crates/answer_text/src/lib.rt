@@ -138,25 +138,16 @@ fn put_report(w: &mut Writer<'_>, s: Session)
     }
 }
 
-#[tactic(auto, using(report_text::proofs::Putting::next_field, report_text::proofs::Putting::closing), unfolding(crate::specs::Answers::answer_text, report_text::specs::Texts::question_text, report_text::specs::Texts::declined_text, words::specs::Words::word_at))]
+#[tactic(auto, unfolding(crate::specs::Answers::answer_text, report_text::specs::Texts::question_text, report_text::specs::Texts::declined_text, words::specs::Words::word_at))]
 pub fn write_answer(w: &mut Writer<'_>, a: Answer)
     ensures { Wrote w.old w.new (answer_text a) }
 {
     match a.step {
-        Step::Question(mv, bc, list) => {
-            w.open(&Word::Question);
-            w.field(&list);
-            w.field(&mv);
-            w.field(&bc);
-            w.close();
-        }
+        Step::Question(mv, bc, list) => (Word::Question, list, mv, bc).put(w),
         Step::Report => put_report(w, a.session),
         Step::Refused(refusal) => {
             let (number, position) = (refusal.code.number(), refusal.position as u64);
-            w.open(&Word::Declined);
-            w.field(&number);
-            w.field(&position);
-            w.close();
+            (Word::Declined, number, position).put(w);
         }
     }
 }

@@ -1,16 +1,15 @@
--- Laws of doubles in bytes: read one by one, read as a column, and laid over a list. Assumes nothing.
+-- Laws of doubles in bytes: read alone, read as a column, and laid over a list. Assumes nothing.
 use Prim.Native.Nat.{ℕ, zero, suc, ◌+◌, ◌*◌, ◌/◌, ◌%◌, ◌≤◌, ◌<◌}
 use mathlib.Core.Path.{◌≡◌, refl, sym, ap, ◌∙◌}
 use mathlib.Core.Bool.{Bool, true, false, not, ◌||◌, true≢false}
 use mathlib.Core.List.{List, [], ◌∷◌, ◌++◌, append_assoc}
-use native.Mathlib.Nat.{not-suc-le-zero, le_of_suc-le-suc, add-zero, zero-add, suc-mul, mul-le-mul_right, div-mul-le_self}
-use native.Mathlib.Numerals.{add-one}
+use native.Mathlib.Nat.{not-suc-le-zero, le_of_suc-le-suc, add-zero, zero-add, suc-mul, mul-le-mul_right, div-mul-le_self, div-div-eq-div-mul}
 use native.Mathlib.Omega.{arith}
 use borrow.Author.Tests.{eq-eqb, ne_eqb, lt-ltb, le-ltb, ltb-false}
 use lib.Dec.{eqb, ltb}
-use lib.ListN.{length, take, drop, get_or, set, replicate, length-drop, length-append}
-use lib.Seq.{get_or-drop}
-use lib.Ieee.{Float, nan, to_bits, binary64}
+use lib.ListN.{length, take, drop, get_or, set, replicate, length-take, length-drop, length-append}
+use lib.Ieee.{Float, nan}
+use Rattle.std.specs.Int.{w64, from_le_bytes, to_le_bytes}
 use Rattle.numeric.specs.Numeric.{zero64}
 use Rattle.slices.specs.Slices.{laid_over}
 use Rattle.likelihood.proofs.Laws.{over_suc, over_all, over_take}
@@ -20,28 +19,28 @@ use Rattle.definition.specs.Likelihood.{chi_square_of, with_priors_of}
 use Rattle.definition.specs.Meaning.{observations_of}
 use Rattle.definition.specs.declared.Point.{Point}
 use Rattle.definition.specs.declared.TruingPriorsV1.{TruingPriorsV1}
-use Rattle.c_api.specs.Desk.{little_endian, number_at, double_at, column_of, lowest, bytes_of, double_bytes, put_at, Outcome, sum_of, sum_outcome, inverted_outcome}
+use Rattle.c_api.specs.Desk.{little_endian, number_at, double_at, column_of, bytes_of, double_bytes, put_at, Outcome, sum_of, sum_outcome, inverted_outcome}
 use Rattle.c_api.specs.Desk.{inverse_outcome}
 
 -- ---- reading
 
-first_8 : (l : List ℕ) → 8 ≤ length l → get_or l 0 0 ∷ get_or l 1 0 ∷ get_or l 2 0 ∷ get_or l 3 0 ∷ get_or l 4 0 ∷ get_or l 5 0 ∷ get_or l 6 0 ∷ get_or l 7 0 ∷ [] ≡ take 8 l
-first_8 [] h = absurd (omega arith)
-first_8 (b0 ∷ []) h = absurd (omega arith)
-first_8 (b0 ∷ b1 ∷ []) h = absurd (omega arith)
-first_8 (b0 ∷ b1 ∷ b2 ∷ []) h = absurd (omega arith)
-first_8 (b0 ∷ b1 ∷ b2 ∷ b3 ∷ []) h = absurd (omega arith)
-first_8 (b0 ∷ b1 ∷ b2 ∷ b3 ∷ b4 ∷ []) h = absurd (omega arith)
-first_8 (b0 ∷ b1 ∷ b2 ∷ b3 ∷ b4 ∷ b5 ∷ []) h = absurd (omega arith)
-first_8 (b0 ∷ b1 ∷ b2 ∷ b3 ∷ b4 ∷ b5 ∷ b6 ∷ []) h = absurd (omega arith)
-first_8 (b0 ∷ b1 ∷ b2 ∷ b3 ∷ b4 ∷ b5 ∷ b6 ∷ b7 ∷ l) h = refl
+-- the standard library's number of 8 bytes
+le_8 : (l : List ℕ) → length l ≡ 8 → from_le_bytes w64 l ≡ little_endian l
+le_8 [] h = absurd (omega arith)
+le_8 (b0 ∷ []) h = absurd (omega arith)
+le_8 (b0 ∷ b1 ∷ []) h = absurd (omega arith)
+le_8 (b0 ∷ b1 ∷ b2 ∷ []) h = absurd (omega arith)
+le_8 (b0 ∷ b1 ∷ b2 ∷ b3 ∷ []) h = absurd (omega arith)
+le_8 (b0 ∷ b1 ∷ b2 ∷ b3 ∷ b4 ∷ []) h = absurd (omega arith)
+le_8 (b0 ∷ b1 ∷ b2 ∷ b3 ∷ b4 ∷ b5 ∷ []) h = absurd (omega arith)
+le_8 (b0 ∷ b1 ∷ b2 ∷ b3 ∷ b4 ∷ b5 ∷ b6 ∷ []) h = absurd (omega arith)
+le_8 (b0 ∷ b1 ∷ b2 ∷ b3 ∷ b4 ∷ b5 ∷ b6 ∷ b7 ∷ []) h = omega arith
+le_8 (b0 ∷ b1 ∷ b2 ∷ b3 ∷ b4 ∷ b5 ∷ b6 ∷ b7 ∷ b8 ∷ l) h = absurd (omega arith)
 
--- 8 bytes, each read by its index
-pub read_8 : (bytes : List ℕ) (i : ℕ) → i + 8 ≤ length bytes
-    → little_endian (get_or bytes i 0 ∷ get_or bytes (i + 1) 0 ∷ get_or bytes (i + 2) 0 ∷ get_or bytes (i + 3) 0 ∷ get_or bytes (i + 4) 0 ∷ get_or bytes (i + 5) 0
-    ∷ get_or bytes (i + 6) 0 ∷ get_or bytes (i + 7) 0 ∷ []) ≡ number_at i bytes
+-- of the 8 from an index on
+pub number_le : (bytes : List ℕ) (i : ℕ) → i + 8 ≤ length bytes → from_le_bytes w64 (take 8 (drop i bytes)) ≡ number_at i bytes
 unfolding number_at
-read_8 bytes i h = rw (add-zero i) at (simp get_or-drop at (ap little_endian (first_8 (drop i bytes) (omega (arith, length-drop i bytes)))))
+number_le bytes i h = le_8 (take 8 (drop i bytes)) (omega (arith, length-take 8 (drop i bytes), length-drop i bytes))
 
 -- the end of a stride of n
 pub stride_within : (i n stride : ℕ) → i < n → i * stride + stride ≤ n * stride
@@ -80,7 +79,7 @@ module _ (stride : ℕ) where
 
 -- ---- writing
 
-pub put_none : (i : ℕ) (xs : List ℕ) → put_at i [] xs ≡ xs
+put_none : (i : ℕ) (xs : List ℕ) → put_at i [] xs ≡ xs
 put_none zero xs = refl
 put_none (suc i) [] = refl
 put_none (suc i) (x ∷ xs) = ap (λ (r : List ℕ). x ∷ r) (put_none i xs)
@@ -92,8 +91,16 @@ put_one zero b bytes (x ∷ xs) = refl
 put_one (suc i) b bytes [] = refl
 put_one (suc i) b bytes (x ∷ xs) = ap (λ (r : List ℕ). x ∷ r) (put_one i b bytes xs)
 
-pub put_next : (i left k rest : ℕ) (xs : List ℕ) → left ≡ suc k → put_at i (lowest left rest) xs ≡ put_at (i + 1) (lowest k (rest / 256)) (set xs i (rest % 256))
-put_next i left k rest xs e = rw e (rw add-one (put_one i (rest % 256) (lowest k (rest / 256)) xs))
+over_front : (bytes xs : List ℕ) → length bytes ≤ length xs → laid_over bytes xs ≡ bytes ++ drop (length bytes) xs
+over_front [] xs h = refl
+over_front (b ∷ bytes) [] h = absurd (not-suc-le-zero h)
+over_front (b ∷ bytes) (x ∷ xs) h = ap (λ (r : List ℕ). b ∷ r) (over_front bytes xs (le_of_suc-le-suc h))
+
+-- n bytes, as a part of a slice is written
+pub put_part : (i n : ℕ) (bytes xs : List ℕ) → length bytes ≡ n → i + n ≤ length xs → put_at i bytes xs ≡ take i xs ++ (bytes ++ drop n (drop i xs))
+put_part zero n bytes xs e h = over_front bytes xs (omega arith) ∙ ap (λ (k : ℕ). bytes ++ drop k xs) e
+put_part (suc i) n bytes [] e h = absurd (omega arith)
+put_part (suc i) n bytes (x ∷ xs) e h = ap (λ (r : List ℕ). x ∷ r) (put_part i n bytes xs e (omega arith))
 
 move : (i k : ℕ) → i + suc k ≡ suc i + k
 move i k = omega arith
@@ -111,9 +118,10 @@ pub double_length : (x : Float) → length (double_bytes x) ≡ 8
 unfolding bytes_of
 double_length x = refl
 
-pub double_lowest : (x : Float) → double_bytes x ≡ lowest 8 (to_bits binary64 x)
+-- the standard library's 8 bytes of a number
+pub bytes_le : (p : ℕ) → to_le_bytes w64 p ≡ bytes_of p
 unfolding bytes_of
-double_lowest x = refl
+bytes_le p = simp div-div-eq-div-mul
 
 put_after : (j : ℕ) (before bytes xs : List ℕ) → length before ≡ j → put_at j bytes (put_at 0 before xs) ≡ put_at 0 (before ++ bytes) xs
 put_after j before bytes xs e = ap (λ (k : ℕ). put_at k bytes (put_at 0 before xs)) (sym e ∙ sym (zero-add (length before))) ∙ put_put 0 before bytes xs

@@ -1,12 +1,12 @@
 // The functions that C and Rust link, by the exports of `c_api_c`.
-// Kept: numbers for refusals, and lists as bytes, are the C interface.
+// Kept: numbers for refusals, and lists lent as bytes, are the C interface.
 #![tactic(auto)]
 
-ghost use Rattle.std.specs.Prelude.{◌≡◌, ◌∷◌, [], ◌+◌, ◌*◌, ◌≤◌, ◌<◌, length, replicate};
+ghost use Rattle.std.specs.Prelude.{◌≡◌, ◌+◌, ◌*◌, ◌≤◌, ◌<◌, length, replicate};
 ghost use Rattle.root.specs.Root.{root_of};
 ghost use Rattle.numeric.specs.Numeric.{zero64};
 ghost use Rattle.slices.specs.Slices.{laid_over};
-ghost use Rattle.c_api.specs.Desk.{little_endian, double_at, column_of, double_bytes, put_at, prior_of, priors_of, sum_of, sum_outcome, inverse_bytes};
+ghost use Rattle.c_api.specs.Desk.{double_at, column_of, double_bytes, put_at, prior_of, priors_of, sum_of, sum_outcome, inverse_bytes};
 ghost use Rattle.c_api.specs.Desk.{inverse_outcome};
 
 use definition::{NormalPriorV1, Point, TruingPriorsV1};
@@ -25,28 +25,12 @@ const INVERSE: usize = 32;
 
 // ---- doubles in bytes
 
-// The number with these bytes, the lowest first.
-fn word(b0: u8, b1: u8, b2: u8, b3: u8, b4: u8, b5: u8, b6: u8, b7: u8) -> u64
-    ensures { result ≡ little_endian (b0 ∷ b1 ∷ b2 ∷ b3 ∷ b4 ∷ b5 ∷ b6 ∷ b7 ∷ []) }
-{
-    let high = b4 as u64 + 256 * (b5 as u64 + 256 * (b6 as u64 + 256 * b7 as u64));
-    b0 as u64 + 256 * (b1 as u64 + 256 * (b2 as u64 + 256 * (b3 as u64 + 256 * high)))
-}
-
 fn double_at(bytes: &[u8], at: usize) -> f64
     requires { at + 8 ≤ length bytes.now }
     ensures { result ≡ double_at at bytes.now }
 {
-    numerals::double(word(
-        bytes[at],
-        bytes[at + 1],
-        bytes[at + 2],
-        bytes[at + 3],
-        bytes[at + 4],
-        bytes[at + 5],
-        bytes[at + 6],
-        bytes[at + 7],
-    ))
+    let word = bytes[at..].first_chunk::<DOUBLE>().unwrap();
+    numerals::double(u64::from_le_bytes(*word))
 }
 
 // n doubles, one in each stride, in the first places of an array.
@@ -65,11 +49,7 @@ fn put_double(out: &mut [u8], at: usize, x: f64)
     requires { at + 8 ≤ length out.old }
     ensures { out.new ≡ put_at at (double_bytes x) out.old }
 {
-    let mut rest = numerals::pattern(x);
-    for i in at..at + DOUBLE {
-        out[i] = (rest % 256) as u8;
-        rest /= 256;
-    }
+    out[at..at + DOUBLE].copy_from_slice(&numerals::pattern(x).to_le_bytes());
 }
 
 // ---- the functions

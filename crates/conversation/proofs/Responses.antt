@@ -1,10 +1,9 @@
 -- What each line comes to, over plain values. Assumes nothing.
 use Rattle.std.specs.Prelude.{None, Some, Option}
-use Prim.Native.Nat.{ℕ, suc, ◌+◌, ◌≤◌, ◌<◌, min}
+use Prim.Native.Nat.{ℕ, suc, ◌+◌, ◌≤◌, min}
 use mathlib.Core.Path.{◌≡◌, refl, sym, ap, ◌∙◌, subst}
 use mathlib.Core.Bool.{Bool, true, false, cond, true≢false}
-use mathlib.Core.List.{List, [], ◌∷◌, ◌++◌, append_assoc}
-use native.Mathlib.Numerals.{add-one}
+use mathlib.Core.List.{[], ◌∷◌, ◌++◌}
 use native.Mathlib.Omega.{arith}
 use borrow.Author.Tests.{ltb-true, ltb-false}
 use lib.Dec.{ltb}
@@ -21,7 +20,7 @@ use Rattle.lines.specs.declared.Form.{Form as Read}
 use Rattle.report.specs.Reading.{report_in}
 use Rattle.editing.specs.Meaning.{state, seen}
 use Rattle.editing.specs.declared.Session.{Session}
-use Rattle.editing.specs.declared.Answer.{Answer as Given}
+use Rattle.editing.specs.Meaning.{Answer as Given}
 use Rattle.demands.specs.Calls.{Call}
 use Rattle.demands.specs.Demands.{Meets, count}
 use Rattle.report_text.proofs.Writing as writing
@@ -37,7 +36,7 @@ use Rattle.answer_text.proofs.Fits.{answer_fits}
 use Rattle.page_text.specs.Page.{lines_in, page_in}
 use Rattle.page.proofs.Laws.{page_length}
 use Rattle.conversation.specs.Conversation.{Conversation, Answer, malformed_at, Answered, answer_text, malformed_line, collected, in_place, opens, calls}
-use Rattle.conversation.specs.Conversation.{said_text, next_line, page_answer, takes_shot, answer_to}
+use Rattle.conversation.specs.Conversation.{said_text, page_answer, takes_shot, answer_to}
 use Rattle.requests.specs.Kept.{held, Keeps}
 use Rattle.conversation.specs.Tracks.{Tracks, response_says, response_text, Responds, Fills}
 use Rattle.conversation.specs.declared.Section.{Section}

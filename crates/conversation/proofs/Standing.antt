@@ -12,7 +12,7 @@ use Rattle.definition.specs.Session.{Said, head, sizes_for, says_of, Opened}
 use Rattle.report.specs.Reading.{report_in}
 use Rattle.editing.specs.Meaning.{state, seen}
 use Rattle.editing.specs.declared.Session.{Session}
-use Rattle.editing.specs.declared.Answer.{Answer}
+use Rattle.editing.specs.Meaning.{Answer}
 use Rattle.demands.specs.Calls.{Call, reply, refuse_point, change, At, first, rest_at, kept_by, finished_by, finished_at, report_by, taking_reply, taking_refusal}
 use Rattle.demands.specs.Calls.{taking_edit, unless_declined, after_taken, due, after_call, due_to}
 use Rattle.demands.specs.Demands.{Meets, count}

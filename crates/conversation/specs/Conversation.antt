@@ -1,7 +1,7 @@
 -- The line protocol between two lines: where a conversation stands, and what a line's form does to it and gets for an answer. It reads beside docs/PROTOCOL.md.
--- What is said
--- to a call on the session, and where it stands then, are `due_to` and `after_call` (demands); the texts are those of `report_text` and `answer_text`.
-use Rattle.std.specs.Prelude.{ℕ, Bool, true, false, List, [], ◌++◌, length, Option}
+-- What is said to a call on the session, and where it stands then, are `due_to` and `after_call` (demands); the texts are those of `report_text` and
+-- `answer_text`.
+use Rattle.std.specs.Prelude.{ℕ, Bool, true, false, [], ◌++◌, length, Option}
 use Rattle.numeric.specs.Numeric.{zero64}
 use Rattle.definition.specs.Request.{Opening}
 use Rattle.definition.specs.Laws.{put}

@@ -34,7 +34,7 @@ pub enum Section {
 }
 
 // The conversation: the lines read, the request with its section, and the session.
-#[derive(Drop)]
+#[derive(Clone, Copy)]
 pub struct Conversation {
     lines: u64,
     section: Section,

@@ -1,4 +1,5 @@
 pub mod File
+pub mod Held
 pub mod Table
 pub mod Reading
 pub mod Loading

@@ -2,14 +2,16 @@
 #![tactic(auto)]
 
 ghost use Rattle.std.specs.Prelude.{◌≡◌, ◌≤◌, length, slice_index_or, MatchResult, OnOk};
+ghost use Rattle.coverage.specs.Held.{held};
 ghost use Rattle.coverage.specs.Rows.{built_in_row, built_in, last_row, at_row};
 ghost use Rattle.coverage.specs.File.{told_of, refusal, in_range, rises, outside_of, flat_of, ranged, rows_or, judged};
 ghost use Rattle.coverage.specs.Reading.{longer_of, digit_after, point_after, number_after, quotient_of, value_at, stop_of, behind_of, field_after, text_after};
-ghost use Rattle.coverage.specs.Reading.{next_at, rows_after, line_at, begun_of, fed_of, fed_all, form_in};
+ghost use Rattle.coverage.specs.Reading.{next_at, rows_after, line_at, begun_of, fed_of, fed_all, form_in, Fits};
 
-use arrayvec::ArrayVec;
 use interval::GaussianIntervalV1;
-use std::marker::Model;
+use rows::Rows;
+
+mod rows;
 
 // Whole numbers below 2^53 are doubles.
 const WHOLE_END: u64 = 1 << 53;
@@ -30,11 +32,11 @@ pub struct CoverageRow {
 }
 
 // 1 to 8 rows.
-#[derive(Drop)]
+#[derive(Clone, Copy)]
 pub struct Table {
-    rows: ArrayVec<CoverageRow, 8>,
-    ghost least: { 1 ≤ length rows.items },
-    ghost most: { length rows.items ≤ 8 },
+    rows: Rows,
+    ghost least: { 1 ≤ length (held rows) },
+    ghost most: { length (held rows) ≤ 8 },
 }
 
 // Why a file is refused, with the number that is told.
@@ -55,6 +57,7 @@ pub struct TableRefusal {
     pub place: usize,
 }
 
+// Kept: where the reader stands, with the level once it is read; neither case is none.
 // The number of a row that is being read: its level, or its factor behind that level.
 #[derive(Clone, Copy)]
 enum Field {
@@ -90,20 +93,11 @@ enum Spot {
 }
 
 // The rows are those whose lines are read.
-#[derive(Drop)]
+#[derive(Clone, Copy)]
 pub struct Loader {
     spot: Spot,
-    rows: ArrayVec<CoverageRow, 8>,
-}
-
-impl Model for Loader {
-    ghost use Rattle.coverage.specs.Reading.{Standing, Fits};
-
-    ghost Value = { Standing };
-
-    ghost view = { λ l. record { spot = l.spot; rows = l.rows.items } };
-
-    ghost invariant = { λ l. Fits (record { spot = l.spot; rows = l.rows.items }) };
+    rows: Rows,
+    ghost fits: { ∥ Fits (record { spot = spot; rows = held rows }) ∥₁ },
 }
 
 // ---- refusals
@@ -155,7 +149,7 @@ impl Table {
     pub fn single() -> Table
         ensures { rows_in result ≡ built_in }
     {
-        let mut rows = ArrayVec::new();
+        let mut rows = Rows::new();
         rows.push(CoverageRow::BUILT_IN);
         Table { rows }
     }
@@ -350,9 +344,9 @@ fn text(expected: &[u8], k: usize, c: u8) -> Option<usize>
 
 impl Spot {
     // Where the reader stands with one byte more, if the line may go on so. The line feed behind a row puts it among the rows.
-    fn next(self, rows: &mut ArrayVec<CoverageRow, 8>, c: u8) -> Option<Spot>
-        ensures spot { result ≡ next_at self (length rows.old.items) c }
-        ensures rows { rows.new.items ≡ rows_after self rows.old.items c }
+    fn next(self, rows: &mut Rows, c: u8) -> Option<Spot>
+        ensures spot { result ≡ next_at self (length (held rows.old)) c }
+        ensures rows { held rows.new ≡ rows_after self (held rows.old) c }
     {
         match self {
             Spot::Head(k) => text(FIRST_LINE, k, c).map(|j| {
@@ -371,7 +365,7 @@ impl Spot {
             }),
             Spot::Number(field, digits) => field.next(digits, c),
             Spot::Closed(row) if c == b'\n' => {
-                rows.try_push(row).ok()?;
+                rows.try_push(row)?;
                 Some(Spot::Start)
             }
             Spot::Start if c == b'(' => Some(Spot::Opening(1)),
@@ -384,34 +378,35 @@ impl Spot {
 }
 
 impl Loader {
-    ghost use Rattle.coverage.specs.Table.{says};
+    ghost use Rattle.coverage.specs.Table.{standing, says};
 
     // Nothing is read yet.
     #[tactic(auto, unfolding(crate::specs::Reading::begun_of))]
     pub fn begin() -> Loader
-        ensures { result ≡ begun_of }
+        ensures { standing result ≡ begun_of }
     {
         Loader {
             spot: Spot::Head(0),
-            rows: ArrayVec::new(),
+            rows: Rows::new(),
         }
     }
 
     // The number of the line that is being read.
     fn line(&self) -> usize
-        ensures { result ≡ line_at self.now.spot (length self.now.rows) }
+        ensures { result ≡ line_at self.now.spot (length (held self.now.rows)) }
     {
+        let n = self.rows.as_slice().len();
         match self.spot {
             Spot::Head(_) => 1,
-            Spot::Done => self.rows.len() + 3,
-            _ => self.rows.len() + 2,
+            Spot::Done => n + 3,
+            _ => n + 2,
         }
     }
 
     // One byte more; where the line may not go on so, its number stays.
     #[tactic(auto, unfolding(crate::specs::Reading::fed_of))]
     fn take(&mut self, c: u8)
-        ensures { self.new ≡ fed_of self.old c }
+        ensures { standing self.new ≡ fed_of (standing self.old) c }
     {
         let line = self.line();
         let spot = self.spot.next(&mut self.rows, c);
@@ -420,7 +415,7 @@ impl Loader {
 
     // Bytes more.
     pub fn feed(&mut self, bytes: &[u8])
-        ensures { self.new ≡ fed_all self.old bytes.now }
+        ensures { standing self.new ≡ fed_all (standing self.old) bytes.now }
     {
         for c in bytes {
             self.take(*c);
@@ -430,9 +425,8 @@ impl Loader {
     // Whether what was read is of the form, were it the whole file, or the number of the first line that is not.
     #[tactic(auto, unfolding(crate::specs::Reading::form_in))]
     fn form(&self) -> Result<(), usize>
-        ensures answer { MatchResult result (λ _. form_in self.now ≡ Ok self.now.rows) (λ k. form_in self.now ≡ Err k) }
-        ensures least { OnOk result (1 ≤ length self.now.rows) }
-        ensures most { length self.now.rows ≤ 8 }
+        ensures answer { MatchResult result (λ _. form_in (standing self.now) ≡ Ok (held self.now.rows)) (λ k. form_in (standing self.now) ≡ Err k) }
+        ensures least { OnOk result (1 ≤ length (held self.now.rows)) }
     {
         match self.spot {
             Spot::Done => Ok(()),
@@ -444,10 +438,9 @@ impl Loader {
     // The file has ended.
     #[tactic(auto, unfolding(crate::specs::File::judged))]
     pub fn ended(self) -> Result<Table, TableRefusal>
-        ensures { says result ≡ judged (form_in self) }
+        ensures { says result ≡ judged (form_in (standing self)) }
     {
         self.form().map_err(|k| TableRefusalCode::Line.at(k))?;
-        let Loader { spot: _, rows } = self;
-        Table { rows }.judged()
+        Table { rows: self.rows }.judged()
     }
 }

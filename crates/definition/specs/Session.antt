@@ -1,7 +1,6 @@
 -- What a host sees of a session: what an answer says, where the session stands, and what each call does to it. The contracts of the calls are one family over
 -- what a session shows.
-use Rattle.std.specs.Prelude.{ℕ, suc, ◌≡◌, Bool, true, false, cond, ◌&&◌, List, ltb, eqb, length, Float, Option, None, Some}
-use Rattle.definition.specs.Lists.{zip_with}
+use Rattle.std.specs.Prelude.{ℕ, suc, ◌≡◌, Bool, true, false, cond, List, ltb, eqb, length, Float, Option, None, Some}
 use Rattle.definition.specs.Request.{Opening}
 use Rattle.definition.specs.Run.{Run, done, refuse, ask, refused, entries, Entry, Which, shots, distances, new}
 use Rattle.definition.specs.Summary.{Finished}

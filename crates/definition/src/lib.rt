@@ -1,10 +1,12 @@
 // The values that a request, a report and the pieces between them are made of.
 #![tactic(auto)]
 
-ghost use Rattle.std.specs.Prelude.{◌≡◌};
+ghost use Rattle.std.specs.Prelude.{◌≡◌, None};
+ghost use Rattle.numeric.specs.Numeric.{zero64};
 ghost use Rattle.definition.specs.Refusals.{number_of};
 ghost use Rattle.definition.specs.Conversions.{failure_of, criterion_of};
 
+use fixed_list::Blank;
 use interval::GaussianIntervalV1;
 use matrix::{InverseError, Symmetric2};
 
@@ -30,18 +32,41 @@ pub struct TruingPriorsV1 {
 }
 
 // An observation: distance in yards, drop and its sigma in the run's unit.
-#[derive(Clone, Copy, Default, PartialEq)]
+#[derive(Clone, Copy, PartialEq)]
 pub struct WeightedTruingObservationV1 {
     pub range_yd: f64,
     pub drop: f64,
     pub sigma: f64,
 }
 
+impl Blank for WeightedTruingObservationV1 {
+    ghost blank = { record { range_yd = zero64; drop = zero64; sigma = zero64 } };
+
+    fn blank() -> WeightedTruingObservationV1 {
+        WeightedTruingObservationV1 {
+            range_yd: 0.0,
+            drop: 0.0,
+            sigma: 0.0,
+        }
+    }
+}
+
 // A requested distance, with the sigma of a future observation if one is given.
-#[derive(Clone, Copy, Default, PartialEq)]
+#[derive(Clone, Copy, PartialEq)]
 pub struct TruingPredictionRequestV1 {
     pub range_yd: f64,
     pub future_observation_sigma: Option<f64>,
+}
+
+impl Blank for TruingPredictionRequestV1 {
+    ghost blank = { record { range_yd = zero64; future_observation_sigma = None } };
+
+    fn blank() -> TruingPredictionRequestV1 {
+        TruingPredictionRequestV1 {
+            range_yd: 0.0,
+            future_observation_sigma: None,
+        }
+    }
 }
 
 // A request: the entered point, the observations, the priors and the requested distances.
@@ -190,6 +215,7 @@ pub enum RefusalCode {
 }
 
 impl RefusalCode {
+    // Kept: a method and no From, since the number is what the scope calls it.
     pub fn number(self) -> u64
         ensures { result ≡ number_of self }
     {
@@ -197,6 +223,7 @@ impl RefusalCode {
     }
 }
 
+// Kept: 0 where no position is named, as the scope's table and the protocol have it.
 // A refusal: why, and the position that is at fault, counted from 1, or 0 where none is named.
 #[derive(Clone, Copy, PartialEq, Eq)]
 pub struct Refusal {
@@ -212,6 +239,7 @@ pub enum Step {
     Refused(Refusal),
 }
 
+// Kept: either case verifies a fit, and neither is none.
 // How a fit was verified; the mesh with its final radius and the largest gain found there.
 #[derive(Clone, Copy, PartialEq)]
 pub enum Convergence {

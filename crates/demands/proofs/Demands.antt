@@ -13,24 +13,24 @@ use Rattle.definition.specs.declared.Point.{Point}
 use Rattle.definition.proofs.Questions.{asks_now, asks_next, asks_edit, every_new, count, count_of_edit}
 use Rattle.fitting.proofs.Laws.{bind_assoc}
 use Rattle.fresh_outcome.specs.Solver.{Solver, host_of}
-use Rattle.definition.specs.Session.{State, asking, standing, over, Said, says_of, head, more_of, counted, Sizes, sizes_for, wants, Sized, either}
+use Rattle.definition.specs.Session.{State, standing, Said, says_of, head, more_of, counted, Sizes, sizes_for, wants, Sized, either}
 use Rattle.definition.specs.declared.Distances.{Distances}
 use Rattle.definition.specs.Session as meaning
 use Rattle.report.specs.Reading.{Shows, place_in, baseline_results, report_in}
 use Rattle.editing.specs.Meaning.{state, seen}
 use Rattle.editing.specs.declared.Session.{Session}
-use Rattle.editing.specs.declared.Answer.{Answer}
+use Rattle.editing.specs.Meaning.{Answer}
 use Rattle.demands.specs.Calls.{Call, reply, refuse_point, change, resume, Editing, At, first, rest_by, rest_at, kept_by, finished_by, finished_at, report_by}
 use Rattle.demands.specs.Calls.{Taking, declines, takes, taking_reply, taking_refusal, taking_edit, stance, with_reply, with_edit, after_taken, unless_declined}
 use Rattle.demands.specs.Calls.{after_call, due, due_to}
 use Rattle.demands.specs.Book.{heard, opened, Ends, standing_report as standsWith, Holds, Trail, begun, followed}
 use Rattle.demands.specs.Demands as stated
 use Rattle.demands.specs.Demands.{Made, Meets, Chained, Throughout, ReadsAs, checked, OpensProperly, counted_said, most_of, EndsProperly, Demand1}
-use Rattle.demands.specs.Demands.{OpensAsDefined, AsDefined, Demand2, Changes, edited_from, next_trail, AllFrom, OpensFresh, EndsFresh, before_edit, Along}
+use Rattle.demands.specs.Demands.{OpensAsDefined, AsDefined, Demand2, edited_from, next_trail, AllFrom, before_edit, Along}
 use Rattle.demands.specs.Demands.{Demand3}
 use Rattle.demands.specs.Example as example
 use Rattle.demands.specs.Standing.{IsNew, News, Inv}
-use Rattle.demands.proofs.Book.{resume_more, rest_more, Agrees, agrees_first, agrees_ruled, agrees_next, agrees_holds, agrees_changes}
+use Rattle.demands.proofs.Book.{rest_more, Agrees, agrees_first, agrees_ruled, agrees_next, agrees_holds, agrees_changes}
 use Rattle.demands.proofs.Book.{agrees_opened, opened_stops}
 
 -- ---- the contracts of the calls, of an answer as a whole

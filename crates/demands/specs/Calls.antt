@@ -1,5 +1,5 @@
 -- The calls of a host on a session just opened, and what the definition says to each: where the run and its edits stand after the calls before it.
-use Rattle.std.specs.Prelude.{ℕ, Bool, cond, List, [], ◌∷◌, ◌++◌, length, Float, Option, None, Some, eqb}
+use Rattle.std.specs.Prelude.{ℕ, cond, List, [], ◌∷◌, ◌++◌, length, Option, None, Some, eqb}
 use Rattle.definition.specs.Request.{Opening}
 use Rattle.definition.specs.Run.{Run, done, refuse, ask, Entry, Reply, refused, entries}
 use Rattle.definition.specs.Summary.{Finished, Report, report_of}

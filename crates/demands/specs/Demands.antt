@@ -17,7 +17,7 @@ use Rattle.bands.specs.declared.TruingPredictiveBandV1.{TruingPredictiveBandV1}
 use Rattle.editing.specs.Meaning.{state, seen}
 use Rattle.report.specs.Reading.{Shows, place_in, baseline_results, ReportRead, ResultRead, BaselineResultRead, BandRead}
 use Rattle.editing.specs.declared.Session.{Session}
-use Rattle.editing.specs.declared.Answer.{Answer}
+use Rattle.editing.specs.Meaning.{Answer}
 use Rattle.demands.specs.Calls.{Call, reply, refuse_point, change, Editing, At, first, rest_at, finished_at, report_by, declines, takes, stance}
 use Rattle.demands.specs.Calls.{unless_declined, after_call, due_to}
 use Rattle.demands.specs.Book.{heard, opened, ruled, Ends, Edits, standing_report, Holds, Trail, begun, followed, FromSolver}

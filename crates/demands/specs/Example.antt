@@ -2,7 +2,6 @@
 -- `Example` has its proof, by computation, in proofs/Example.antt, and so has `ExampleMet`.
 use Rattle.std.specs.Prelude.{ℕ, ◌≡◌, true, false, cond, List, [], ◌∷◌, ◌++◌, map, Float, None, Some}
 use Rattle.std.specs.Float.Ieee.{le}
-use Rattle.numeric.specs.Numeric.{zero64}
 use Rattle.definition.specs.Request.{Requested, Opening}
 use Rattle.definition.specs.Run.{Entry}
 use Rattle.definition.specs.Host as Host
@@ -16,7 +15,7 @@ use Rattle.definition.specs.declared.Distances.{Distances}
 use Rattle.demands.specs.Calls.{Call, reply, refuse_point, change, At, first, after_call, due_to}
 use Rattle.editing.specs.Meaning.{seen}
 use Rattle.definition.specs.Session.{Opened}
-use Rattle.editing.specs.declared.Answer.{Answer}
+use Rattle.editing.specs.Meaning.{Answer}
 use Rattle.demands.specs.Book.{Book, idle, is_report, Trail, begun, followed, FromSolver}
 use Rattle.demands.specs.Demands.{Made, Chained, AllFrom}
 

@@ -88,19 +88,11 @@ pub fn sample() -> Lot {
 
 impl Lot {
     pub fn shot_ranges(&self) -> [f64; 12] {
-        let mut ranges = [0.0; 12];
-        for i in 0..12 {
-            ranges[i] = self.shots[i].range_yd;
-        }
-        ranges
+        self.shots.map(|o| o.range_yd)
     }
 
     pub fn requested_ranges(&self) -> [f64; 3] {
-        let mut ranges = [0.0; 3];
-        for i in 0..3 {
-            ranges[i] = self.requested[i].range_yd;
-        }
-        ranges
+        self.requested.map(|d| d.range_yd)
     }
 
     pub fn request(&self) -> UncertaintyTruingRequestV1<'_>

@@ -35,61 +35,45 @@ fn say_heading(rt: &HostRuntime) -> io::Result<()> {
 // So many questions are shown with their replies.
 const SHOWN: usize = 3;
 
-// The solver's reply about these distances, at most twelve, said where it is to be shown.
-fn reply(
-    rt: &HostRuntime,
-    s: Session,
-    p: Point,
-    ranges: &[f64],
-    shown: bool,
-) -> io::Result<Answer> {
-    let mut places = [None; 12];
-    point_mass::fill(p, DropUnit::In, ranges, &mut places);
-    let entries = slices::first_places(&places, ranges.len());
-    if shown {
-        protocol::say_reply(rt, entries)?;
-    }
-    Ok(editing::reply(s, entries))
-}
-
-// A point that is not sane is refused; else each distance of the question gets its drop.
-fn answered(
-    rt: &HostRuntime,
-    s: Session,
+// The solver's reply to a question about at most twelve distances: none at a point that is not sane, nor about a new distance.
+fn reply<'a>(
     p: Point,
     list: Distances,
     lot: &Lot,
-    shown: bool,
-) -> io::Result<Answer> {
+    places: &'a mut [Option<f64>; 12],
+) -> Option<&'a [Option<f64>]> {
     if !point_mass::is_sane(p) {
-        return Ok(editing::refuse(s));
+        return None;
     }
-    match list {
-        Distances::Shots => reply(rt, s, p, &lot.shot_ranges(), shown),
-        Distances::Requested => reply(rt, s, p, &lot.requested_ranges(), shown),
-        Distances::New => Ok(editing::refuse(s)),
+    let shots = lot.shot_ranges();
+    let requested = lot.requested_ranges();
+    let ranges: &[f64] = match list {
+        Distances::Shots => &shots,
+        Distances::Requested => &requested,
+        Distances::New => return None,
+    };
+    point_mass::fill(p, DropUnit::In, ranges, places);
+    Some(slices::first_places(places, ranges.len()))
+}
+
+fn answered(s: Session, reply: Option<&[Option<f64>]>) -> Answer {
+    match reply {
+        Some(entries) => editing::reply(s, entries),
+        None => editing::refuse(s),
     }
 }
 
-// From the opening's answer on, at most so many questions, with their lines where they are to be shown.
-fn conversation(
-    rt: &HostRuntime,
-    opened: Answer,
-    lot: &Lot,
-    most: usize,
-    shown: bool,
-) -> io::Result<Answer> {
+// From the opening's answer to the last.
+fn conversation(opened: Answer, lot: &Lot) -> Answer {
     let mut a = opened;
-    for _ in 0..most {
+    for _ in 0..editing::MAX_QUESTIONS {
         let Step::Question(mv, bc, list) = a.step else {
             break;
         };
-        if shown {
-            protocol::say_answer(rt, a)?;
-        }
-        a = answered(rt, a.session, Point { mv, bc }, list, lot, shown)?;
+        let mut places = [None; 12];
+        a = answered(a.session, reply(Point { mv, bc }, list, lot, &mut places));
     }
-    Ok(a)
+    a
 }
 
 // The request and the beginning of the conversation, which is held once more for it.
@@ -100,7 +84,19 @@ fn say_beginning(rt: &HostRuntime, lot: &Lot, opened: Answer) -> io::Result<()> 
     )?;
     protocol::say_request(rt, lot)?;
     say::text(rt, b"\nThe conversation begins:\n")?;
-    let _begun = conversation(rt, opened, lot, SHOWN, true)?;
+    let mut a = opened;
+    for _ in 0..SHOWN {
+        let Step::Question(mv, bc, list) = a.step else {
+            break;
+        };
+        protocol::say_answer(rt, a)?;
+        let mut places = [None; 12];
+        let entries = reply(Point { mv, bc }, list, lot, &mut places);
+        if let Some(entries) = entries {
+            protocol::say_reply(rt, entries)?;
+        }
+        a = answered(a.session, entries);
+    }
     Ok(())
 }
 
@@ -113,7 +109,7 @@ fn say_end(rt: &HostRuntime, last: Answer) -> io::Result<()> {
 fn main(rt: HostRuntime) -> io::Result<()> {
     let sample = lot::sample();
     let opened = editing::open(sample.request());
-    let last = conversation(&rt, opened, &sample, editing::MAX_QUESTIONS, false)?;
+    let last = conversation(opened, &sample);
     say_heading(&rt)?;
     meaning::say_answer(&rt, last)?;
     say_beginning(&rt, &sample, opened)?;

@@ -3,13 +3,14 @@ use crate::say;
 use bands::TruingPredictiveBandV1;
 use definition::{
     Refusal, RefusalCode, Step, TruingApproximationFailureCodeV1, TruingApproximationV1,
-    TruingMapConvergenceCriterionV1, WeightedTruingObservationResultV1,
+    TruingMapConvergenceCriterionV1, TruingUncertaintyWarningCodeV1,
+    WeightedTruingObservationResultV1,
 };
 use editing::{Answer, Session};
 use report::{TruingBaselineV1, UncertaintyTruingReportV1};
 use std::io;
 use summary::TruingUncertaintyDiagnosticsV1;
-use warnings::Warnings;
+use warnings::{CODES, Warnings};
 
 // ---- the page
 
@@ -158,75 +159,50 @@ fn say_each<T, R: Fn(usize) -> Option<T>, S: Fn(T) -> io::Result<()>>(
 
 // ---- the warnings
 
-// The sentence where its warning stands.
-fn say_warning(rt: &HostRuntime, stands: bool, sentence: &[u8]) -> io::Result<()> {
-    if stands {
-        say::text(rt, b"Warning: ")?;
-        say::text(rt, sentence)?;
-        say::text(rt, b"\n")?;
+fn sentence(code: TruingUncertaintyWarningCodeV1) -> &'static [u8] {
+    match code {
+        TruingUncertaintyWarningCodeV1::OptimizerDidNotConverge => {
+            b"the search for the best fit did not settle, so these numbers are not to be used."
+        }
+        TruingUncertaintyWarningCodeV1::ObjectiveMeshConvergence => {
+            b"the slopes alone did not show the best fit; it was found by trying points around it."
+        }
+        TruingUncertaintyWarningCodeV1::WeakBcSensitivity => {
+            b"these drops say little about the coefficient; shots from farther away would say more."
+        }
+        TruingUncertaintyWarningCodeV1::IllConditionedData => {
+            b"the shots alone hardly tell a faster slug from one with less drag."
+        }
+        TruingUncertaintyWarningCodeV1::MvPriorDominated => {
+            b"the speed rests mostly on the entered prior, and hardly on the shots."
+        }
+        TruingUncertaintyWarningCodeV1::BcPriorDominated => {
+            b"the coefficient rests mostly on the entered prior, and hardly on the shots."
+        }
+        TruingUncertaintyWarningCodeV1::GaussianApproximationUnavailable => {
+            b"there are no intervals, so nothing here says how far off the numbers may be."
+        }
+        TruingUncertaintyWarningCodeV1::IntervalCrossesFitBounds => {
+            b"an interval reaches past the speeds or coefficients that the fit was allowed."
+        }
+        TruingUncertaintyWarningCodeV1::LowEffectiveDegreesOfFreedom => {
+            b"there are hardly more shots than unknowns, so a bad fit would not show."
+        }
+        TruingUncertaintyWarningCodeV1::PredictionOutsideObservedDomain => {
+            b"a requested distance lies nearer or farther than all shots; its drop is an extrapolation."
+        }
+    }
+}
+
+fn say_warnings(rt: &HostRuntime, found: Warnings) -> io::Result<()> {
+    for code in &CODES {
+        if found.stands(*code) {
+            say::text(rt, b"Warning: ")?;
+            say::text(rt, sentence(*code))?;
+            say::text(rt, b"\n")?;
+        }
     }
     Ok(())
-}
-
-fn say_warnings_of_the_fit(rt: &HostRuntime, w: Warnings) -> io::Result<()> {
-    say_warning(
-        rt,
-        w.optimizer_did_not_converge,
-        b"the search for the best fit did not settle, so these numbers are not to be used.",
-    )?;
-    say_warning(
-        rt,
-        w.objective_mesh_convergence,
-        b"the slopes alone did not show the best fit; it was found by trying points around it.",
-    )?;
-    say_warning(
-        rt,
-        w.weak_bc_sensitivity,
-        b"these drops say little about the coefficient; shots from farther away would say more.",
-    )?;
-    say_warning(
-        rt,
-        w.ill_conditioned_data,
-        b"the shots alone hardly tell a faster slug from one with less drag.",
-    )
-}
-
-fn say_warnings_of_the_intervals(rt: &HostRuntime, w: Warnings) -> io::Result<()> {
-    say_warning(
-        rt,
-        w.mv_prior_dominated,
-        b"the speed rests mostly on the entered prior, and hardly on the shots.",
-    )?;
-    say_warning(
-        rt,
-        w.bc_prior_dominated,
-        b"the coefficient rests mostly on the entered prior, and hardly on the shots.",
-    )?;
-    say_warning(
-        rt,
-        w.gaussian_approximation_unavailable,
-        b"there are no intervals, so nothing here says how far off the numbers may be.",
-    )?;
-    say_warning(
-        rt,
-        w.interval_crosses_fit_bounds,
-        b"an interval reaches past the speeds or coefficients that the fit was allowed.",
-    )?;
-    say_warning(
-        rt,
-        w.low_effective_degrees_of_freedom,
-        b"there are hardly more shots than unknowns, so a bad fit would not show.",
-    )
-}
-
-fn say_warnings(rt: &HostRuntime, w: Warnings) -> io::Result<()> {
-    say_warnings_of_the_fit(rt, w)?;
-    say_warnings_of_the_intervals(rt, w)?;
-    say_warning(
-        rt,
-        w.prediction_outside_observed_domain,
-        b"a requested distance lies nearer or farther than all shots; its drop is an extrapolation.",
-    )
 }
 
 // ---- the answer

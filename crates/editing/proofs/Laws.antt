@@ -1,11 +1,11 @@
 -- Sessions over plain values: the state while an edit has a question open, and what is left of an edit.
-use Rattle.std.proofs.Common.{◌≡◌, ℕ, Bool, true, false, ◌&&◌, cond, eqb, ltb, length, List, Option, None, Some, refl, sym, ap, ◌∙◌, subst, arith}
+use Rattle.std.proofs.Common.{◌≡◌, ℕ, Bool, true, false, ◌&&◌, cond, eqb, length, List, Option, None, Some, refl, sym, ap, ◌∙◌, subst, arith}
 use Rattle.std.proofs.Common.{eq-eqb}
 use Rattle.definition.specs.Run.{Run, done, refuse, ask, bind, answered, Entry, Reply, refused, entries, Which, new, require}
 use Rattle.definition.specs.Request.{Requested}
 use Rattle.definition.specs.Likelihood.{Rows}
 use Rattle.definition.specs.Summary.{Finished, Report}
-use Rattle.definition.specs.Whole.{Edit, put_in, take_out, exchange, placed, renewed, sound_requested_of, edit_questions, edit}
+use Rattle.definition.specs.Whole.{Edit, take_out, placed, renewed, sound_requested_of, edit_questions, edit}
 use Rattle.definition.specs.Session.{Said, question, report, refusal, head, State, asking, standing, over, after, Sizes, wants, either, Stands, Declines}
 use Rattle.definition.specs.Session.{entries_taken, refusal_taken, Replied, PointRefused, Edited}
 use Rattle.definition.proofs.Calls.{reply_wrong, reply_taken, refusal_taken_lem, edit_taken_lem}

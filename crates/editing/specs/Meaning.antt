@@ -18,11 +18,10 @@ use Rattle.stencil.specs.declared.StencilRows.{StencilRows}
 use Rattle.lists.specs.Changing.{edit_of, place_of, entry_in, roomy}
 use Rattle.lists.specs.declared.Change.{Change}
 use Rattle.session.specs.Meaning as run
-use Rattle.session.specs.declared.Answer.{Answer as RunAnswer}
+use Rattle.session.specs.declared.Answer as run_answer
 use Rattle.session.specs.declared.Session.{Session as Running}
 use Rattle.editing.specs.declared.OpenEdit.{OpenEdit}
 use Rattle.editing.specs.declared.Session.{Session}
-use Rattle.editing.specs.declared.Answer.{Answer}
 
 -- ---- an open edit
 
@@ -68,7 +67,10 @@ seen s = record { state = state s; sizes = run.sizes_of s.run.body; asked = s.ru
 
 -- ---- the answers by their fields
 
-abbrev pub of_run : RunAnswer → Answer
+abbrev pub Answer : Type 0
+Answer = run_answer.Answer Session
+
+abbrev pub of_run : run_answer.Answer Running → Answer
 of_run a = record { step = a.step; session = record { run = a.session; edit = None } }
 
 abbrev pub closed_with : Running → Step → Answer

@@ -43,11 +43,7 @@ pub struct Session {
     edit: Option<OpenEdit>,
 }
 
-#[derive(Clone, Copy)]
-pub struct Answer {
-    pub step: Step,
-    pub session: Session,
-}
+pub type Answer = session::Answer<Session>;
 
 // ---- answers
 
@@ -70,13 +66,7 @@ fn declined(s: Session, code: RefusalCode) -> Answer
 fn of_run(a: session::Answer) -> Answer
     ensures { result ≡ of_run a }
 {
-    Answer {
-        step: a.step,
-        session: Session {
-            run: a.session,
-            edit: None,
-        },
-    }
+    closed_with(a.session, a.step)
 }
 
 // An edit ends, with the run that stands then.

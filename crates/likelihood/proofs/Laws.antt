@@ -13,9 +13,9 @@ use native.Mathlib.Nat.{not-suc-le-zero, le_of_suc-le-suc}
 use native.Mathlib.Omega.{arith}
 use native.Mathlib.Numerals.{add-one}
 use Rattle.std.proofs.Common.{add_comm}
-use lib.ListN.{length, take, get_or, set, length-map, length-take, get_or-map}
+use lib.ListN.{length, take, get_or, set, length-take, get_or-map}
 use lib.Seq.{take-nil}
-use lib.Ieee.{Float, nan}
+use lib.Ieee.{Float}
 use Rattle.definition.specs.Lists.{next, first_at, fold_pairs, zip_with, zip_with3}
 use Rattle.numeric.specs.Numeric.{zero64}
 use Rattle.definition.specs.Request.{Observation}

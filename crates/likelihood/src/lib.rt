@@ -233,6 +233,7 @@ pub fn lay_slopes(out: &mut [f64], step: f64, entries: &[Option<f64>])
     }
 }
 
+// Kept: its two methods have the shape of two of `Columns`. One type for both would lose the names of the columns.
 impl RowColumns<'_> {
     // How far the columns are read together.
     fn len(self) -> usize

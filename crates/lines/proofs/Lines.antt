@@ -12,7 +12,7 @@ use lib.Dec.{eqb}
 use lib.ListN.{length, length-append}
 use Rattle.lines.specs.declared.Line.{Line}
 use Rattle.lines.specs.Lines.{malformed, put_first, words_of, after_open, on_front, before_close, of_inner, form_of}
-use Rattle.lines.specs.Reading.{start_of, feed_of, form_in, form_if, take_of, read_rest, read_all, short, LineForm}
+use Rattle.lines.specs.Reading.{start_of, feed_of, form_if, take_of, read_rest, read_all, short, LineForm}
 use Rattle.lines.specs.Reading.{closed_if}
 use Rattle.lines.proofs.Parentheses.{close_is}
 use Rattle.lines.proofs.Track.{feed_all, all_none, words_form}

@@ -13,7 +13,7 @@ use Rattle.definition.specs.Run.{Entry}
 use Rattle.words.specs.Words.{bytes, is}
 use Rattle.words.proofs.Rule.{same_length}
 use Rattle.numerals.specs.Numbers.{double_of, count_of}
-use Rattle.lines.specs.Lines.{Form, malformed, if_read, sigma_read, entry_read, in_front, entries_read, entered_of, shot_of, prior_of, distance_of, change_of, put_in, exchange}
+use Rattle.lines.specs.Lines.{Form, malformed, if_read, sigma_read, entry_read, in_front, entries_read, entered_of, shot_of, prior_of, distance_of, change_of, exchange}
 use Rattle.lines.specs.Lines.{take_out_of, drops_of, with0, with1, with2, with3, form_of_words}
 use Rattle.numerals.proofs.Numbers.{no_double, long_count}
 

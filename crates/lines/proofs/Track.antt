@@ -1,13 +1,12 @@
 -- What a line holds once words are fed to it, and that its form is that of the words: the theorem `words_form`. Assumes nothing.
-use Rattle.std.proofs.Common.{◌≡◌, ℕ, zero, suc, ◌+◌, ◌<◌, ◌≤◌, Bool, true, false, cond, ◌||◌, List, [], ◌∷◌, ◌++◌, map, length, take, refl, sym, ap, ◌∙◌, subst, arith, Option, None, Some, true≢false, append_assoc, append-nil, Float}
+use Rattle.std.proofs.Common.{◌≡◌, ℕ, zero, suc, ◌+◌, ◌≤◌, Bool, true, false, cond, ◌||◌, List, [], ◌∷◌, ◌++◌, map, length, take, refl, sym, ap, ◌∙◌, Option, None, Some, true≢false, append_assoc, append-nil, Float}
 use Rattle.std.specs.Option.{option_map, option_and_then}
 use Prim.Native.String.{String}
 use lib.Dec.{ltb, eqb}
-use borrow.Author.Tests.{ltb-true, ltb-false, lt-ltb, le-ltb}
-use Rattle.arrayvec.specs.ArrayVec.{ArrayVec}
+use borrow.Author.Tests.{ltb-false, le-ltb}
+use Rattle.fixed_list.specs.FixedList.{FixedList}
 use Rattle.definition.specs.Run.{Entry}
-use Rattle.definition.specs.Request.{Requested}
-use Rattle.words.specs.Words.{is, words, place_of, place, place_by, place_in, found}
+use Rattle.words.specs.Words.{is, words, place, place_by}
 use Rattle.words.specs.declared.Word.{Word}
 use Rattle.words.specs.declared.Word.TheVariants as word
 use Rattle.words.proofs.Rule.{named}
@@ -45,7 +44,7 @@ use Rattle.lines.specs.Lines.{
   with3,
   form_of_words,
 }
-use Rattle.lines.specs.Reading.{word_reading, is_word, reading_or, start_of, entries_with, after_first, feed_of, requested_of, requested_in, placed, change_in, changes, items_in, named_in, words_in, form_in, form_if, short}
+use Rattle.lines.specs.Reading.{word_reading, reading_or, start_of, entries_with, feed_of, requested_of, placed, change_in, changes, items_in, named_in, form_in, form_if, short}
 use Rattle.lines.proofs.Long.{long, any_long, all_0, all_1, all_2, all_3, if_all, words_bad}
 
 -- ---- the entries
@@ -70,7 +69,7 @@ entries_snoc [] s = by (entry_read s) where
 entries_snoc (w ∷ ws) s = ap (in_front (entry_read w)) (entries_snoc ws s) ∙ front_behind (entry_read w) (entries_read ws) (entry_read s)
 
 -- the first 65 of them, as the code keeps them
-abbrev kept : Option (List Entry) → Option (ArrayVec Entry)
+abbrev kept : Option (List Entry) → Option (FixedList Entry)
 kept es = option_map (λ xs. record { items = take 65 xs }) es
 
 -- what is cut off at first is cut off at last
@@ -163,7 +162,7 @@ all_long (Some l) (w ∷ ws) e = by (long w) refl e (all_long (feed_of l w) ws) 
 -- ---- the form of a line
 
 -- a form by its first word's place
-abbrev chain : Option (ArrayVec Entry) → ℕ → List Reading → Form
+abbrev chain : Option (FixedList Entry) → ℕ → List Reading → Form
 chain es k ws =
     cond (eqb k (place "entered")) (named_in es (Some word.Entered) ws)
     (cond (eqb k (place "shot")) (named_in es (Some word.Shot) ws)
@@ -178,7 +177,7 @@ chain es k ws =
     (cond (eqb k (place "asked")) (named_in es (Some word.Asked) ws)
     (cond (eqb k (place "page")) (named_in es (Some word.Page) ws) malformed)))))))))))
 
-named_chain : (es : Option (ArrayVec Entry)) (o : Option Word) (ws : List Reading) → named_in es o ws ≡ chain es (place_by o) ws
+named_chain : (es : Option (FixedList Entry)) (o : Option Word) (ws : List Reading) → named_in es o ws ≡ chain es (place_by o) ws
 named_chain es None ws = refl
 named_chain es (Some word.Entered) ws = refl
 named_chain es (Some w) ws = refl

@@ -1,10 +1,9 @@
 -- What `==` says of a fixed word, by its place. Assumes nothing.
-use Rattle.std.proofs.Common.{◌≡◌, ℕ, Bool, false, refl, sym, ap, ◌∙◌, Option, None, Some}
+use Rattle.std.proofs.Common.{◌≡◌, Bool, false, refl, ap, ◌∙◌, Option, None, Some}
 use lib.Dec.{eqb}
-use denote.Enum.Bare.{sameb}
 use denote.Enum.Declared.{tag_of}
 use Rattle.std.specs.Option.{option_eq}
-use Rattle.words.specs.Words.{place_in, place_by}
+use Rattle.words.specs.Words.{place_in}
 use Rattle.words.specs.declared.Word.{Word}
 use Rattle.words.specs.declared.Word.TheVariants as word
 use Rattle.words.specs.contracts.Word.{the_type}

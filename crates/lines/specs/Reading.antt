@@ -1,7 +1,7 @@
 -- How the code reads a line word by word, in the code's own terms. What it comes to is `form_of`: `LineForm`, at the end.
 use Rattle.std.specs.Prelude.{ℕ, ◌≡◌, Bool, true, false, cond, List, [], ◌∷◌, ◌++◌, ltb, eqb, length, take, Float, Option, None, Some}
 use Rattle.std.specs.Option.{option_and_then, option_map}
-use Rattle.arrayvec.specs.ArrayVec.{ArrayVec}
+use Rattle.fixed_list.specs.FixedList.{FixedList}
 use Rattle.definition.specs.Request.{Requested}
 use Rattle.definition.specs.Run.{Entry}
 use Rattle.words.specs.Words.{place_in, place_by, found}
@@ -54,13 +54,13 @@ abbrev pub start_of : Line
 start_of = record { words = record { items = [] }; entries = Some (record { items = [] }) }
 
 -- one entry more, where all are entries: 65 are kept
-abbrev pub entries_with : Option (ArrayVec Entry) → Option Entry → Option (ArrayVec Entry)
+abbrev pub entries_with : Option (FixedList Entry) → Option Entry → Option (FixedList Entry)
 entries_with None e = None
 entries_with (Some es) None = None
 entries_with (Some es) (Some e) = Some (record { items = take 65 (es.items ++ (e ∷ [])) })
 
 -- the first word is no entry
-abbrev pub after_first : List Reading → Option (ArrayVec Entry) → Option Entry → Option (ArrayVec Entry)
+abbrev pub after_first : List Reading → Option (FixedList Entry) → Option Entry → Option (FixedList Entry)
 after_first [] es e = es
 after_first (w ∷ ws) es e = entries_with es e
 
@@ -96,11 +96,11 @@ abbrev pub changes : (ℕ → Float → Option Float → Form) → Option (ℕ �
 changes f None = malformed
 changes f (Some c) = f c.0 c.1.range_yd c.1.future_observation_sigma
 
-abbrev pub items_in : Option (ArrayVec Entry) → Option (List Entry)
+abbrev pub items_in : Option (FixedList Entry) → Option (List Entry)
 items_in es = option_map (λ v. v.items) es
 
 -- a form by its first word
-abbrev pub named_in : Option (ArrayVec Entry) → Option Word → List Reading → Form
+abbrev pub named_in : Option (FixedList Entry) → Option Word → List Reading → Form
 named_in es (Some word.Entered) ws = with2 (λ a b. entered_of a.double b.double) ws
 named_in es (Some word.Shot) ws = with3 (λ a b c. shot_of a.double b.double c.double) ws
 named_in es (Some word.Prior) ws = with3 (λ a b c. prior_of (is_word a.word word.Speed) (is_word a.word word.Coefficient) b.double c.double) ws
@@ -115,7 +115,7 @@ named_in es (Some word.Asked) ws = with0 asked ws
 named_in es (Some word.Page) ws = with0 page ws
 named_in es o ws = malformed
 
-abbrev pub words_in : Option (ArrayVec Entry) → List Reading → Form
+abbrev pub words_in : Option (FixedList Entry) → List Reading → Form
 words_in es [] = malformed
 words_in es (w ∷ ws) = named_in es w.word ws
 

@@ -1,13 +1,13 @@
 // The lines that a host writes, read word by word in bounded memory: what a line is, is one of the protocol's forms.
 #![tactic(auto)]
 
-ghost use Rattle.std.specs.Prelude.{◌≡◌, Some};
+ghost use Rattle.std.specs.Prelude.{◌≡◌, true, false, Some, None};
 ghost use Rattle.std.specs.Option.{option_map};
 ghost use Rattle.lines.specs.Lines.{with1, with2, with3, entered_of, shot_of, prior_of, distance_of, open_of, take_out_of};
 ghost use Rattle.lines.specs.Reading.{word_reading, is_word, reading_or, start_of, entries_with, feed_of, form_says, form_in, requested_in, change_in, opened_if, closed_if, take_of};
 
-use arrayvec::ArrayVec;
 use definition::{NormalPriorV1, Point, TruingPredictionRequestV1, WeightedTruingObservationV1};
+use fixed_list::{Blank, FixedList};
 use words::Word;
 
 // What a line is.
@@ -29,7 +29,7 @@ pub enum Form<'a> {
 }
 
 // A word, read in each way that a field can be.
-#[derive(Clone, Copy, Default)]
+#[derive(Clone, Copy)]
 struct Reading {
     word: Option<Word>,
     double: Option<f64>,
@@ -37,13 +37,25 @@ struct Reading {
 }
 
 // Of a line's entries 65 are kept.
-type Entries = ArrayVec<Option<f64>, 65>;
+type Entries = FixedList<Option<f64>, 65>;
 
 // The words of a line that are read so far: the first five, and those after the first as entries, where all of them are.
-#[derive(Drop)]
+#[derive(Clone, Copy)]
 pub struct Line {
-    words: ArrayVec<Reading, 5>,
+    words: FixedList<Reading, 5>,
     entries: Option<Entries>,
+}
+
+impl Blank for Reading {
+    ghost blank = { record { word = None; double = None; count = None } };
+
+    fn blank() -> Reading {
+        Reading {
+            word: None,
+            double: None,
+            count: None,
+        }
+    }
 }
 
 impl Reading {
@@ -89,8 +101,8 @@ impl Line {
         ensures { result ≡ start_of }
     {
         Line {
-            words: ArrayVec::new(),
-            entries: Some(ArrayVec::new()),
+            words: FixedList::new(),
+            entries: Some(FixedList::new()),
         }
     }
 
@@ -113,12 +125,22 @@ impl Line {
         Some(Line { words, entries })
     }
 
-    // One word more, with the parentheses that it has: a line's first word begins with (, and its last ends with ).
+    // Kept: `first` and `last` are where a word stands in its line. A method for each place would say `feed` and its clause four times.
+    // One word more, with a blank behind it. A line's first word begins with (.
+    // Kept: `first` is where the word stands in its line, which the reader of the bytes knows.
     #[tactic(auto, unfolding(crate::specs::Reading::take_of))]
-    pub fn take(self, word: &[u8], first: bool, last: bool) -> Option<Line>
-        ensures { result ≡ take_of (Some self) word.now first last }
+    pub fn take(self, word: &[u8], first: bool) -> Option<Line>
+        ensures { result ≡ take_of (Some self) word.now first false }
     {
-        self.feed(closed(opened(word, first)?, last)?)
+        self.feed(opened(word, first)?)
+    }
+
+    // The last word, which ends with ).
+    #[tactic(auto, unfolding(crate::specs::Reading::take_of))]
+    pub fn end(self, word: &[u8], first: bool) -> Option<Line>
+        ensures { result ≡ take_of (Some self) word.now first true }
+    {
+        self.feed(closed(opened(word, first)?)?)
     }
 
     // What the words that are read come to, where the line ends there.
@@ -246,12 +268,8 @@ fn opened(word: &[u8], first: bool) -> Option<&[u8]>
     }
 }
 
-fn closed(word: &[u8], last: bool) -> Option<&[u8]>
-    ensures { option_map (λ s. s.now) result ≡ closed_if last word.now }
+fn closed(word: &[u8]) -> Option<&[u8]>
+    ensures { option_map (λ s. s.now) result ≡ closed_if true word.now }
 {
-    if last {
-        word.strip_suffix(b")")
-    } else {
-        Some(word)
-    }
+    word.strip_suffix(b")")
 }

@@ -12,6 +12,8 @@ use definition::{Row, TruingPredictionRequestV1, WeightedTruingObservationV1};
 use likelihood::Columns;
 use stencil::StencilRows;
 
+// Kept: arrays with a length beside them. `Shots` is the form that docs/DECISIONS.md 54 names, and `Wanted` goes with it: a FixedList would give the session a
+// model, and each function that passes one on twice a proof by hand.
 // The observations, in the first n places.
 #[derive(Clone, Copy)]
 pub struct Shots {
@@ -160,6 +162,7 @@ impl Change {
         }
     }
 
+    // Kept: `n ≤ 64` is an antecedent here and below. A `Wanted` that no call made has any n; with an invariant it could not be built so.
     // The size of the list of n afterwards.
     fn size_after(self, n: usize) -> usize
         ensures { n ≤ 64 → result ≡ size_after (edit_of self) n }

@@ -1,28 +1,25 @@
 -- Laws of digits and numbers, and the theorems that a double and a count read back as what was written. Assumes nothing.
-use Rattle.std.specs.Prelude.{Option, None, Some}
+use Rattle.std.specs.Prelude.{Option, None, Some, IfNone, IfSome, unwrap_or}
 use Prim.Native.Nat.{ℕ, zero, suc, ◌+◌, ◌-◌, ◌*◌, ◌/◌, ◌%◌, ◌^◌, ◌≤◌, ◌<◌}
-use mathlib.Core.Path.{◌≡◌, refl, sym, ap, ◌∙◌}
+use mathlib.Core.Path.{◌≡◌, refl, sym, ap, subst, ◌∙◌}
 use mathlib.Core.Bool.{Bool, true, false, not, ◌&&◌, cond, true≢false}
-use mathlib.Core.List.{List, [], ◌∷◌, ◌++◌, append_assoc, append-nil}
+use mathlib.Core.List.{List, [], ◌∷◌, ◌++◌}
 use native.Mathlib.Nat.{mul-suc, mul-one, mul_comm, mul_assoc, mul-le-mul_right, pow-le-pow_right, pow-succ', le-mul_of_pos_right, div-lt_iff_lt-mul}
 use native.Mathlib.Nat.{le-div_iff_mul-le, div-add-mod, mod-lt, pow-zero, pow-suc}
 use native.Mathlib.Omega.{arith}
-use borrow.Author.Tests.{lt-ltb, le-ltb, le-leb, lt-leb, eq-eqb, ne_eqb, ltb-true, ltb-false, leb-true, leb-false, eqb-false}
-use lib.Dec.{T, leb, ltb, eqb}
-use lib.ListN.{length, take, drop, get_or, set, replicate, length-append, drop_of_length-le}
-use lib.Seq.{drop-cons, set_split, drop_at, length-take-le}
-use lib.Ieee.{Float, nan, inf, fin, binary64, ne, div, is_nan, of_bits, to_bits}
-use lib.Ieee.Bits.{of_bits-to_bits, to_bits-lt, of_bits-fits}
-use Rattle.numerals.specs.Numbers.{digit_of, glyph_of, number_from, digits_of, of_pattern, double_of, double_text, within64, plain, count_of, places_of}
+use borrow.Author.Tests.{lt-ltb, le-ltb, le-leb, lt-leb, ne_eqb, ltb-true, ltb-false, leb-true, eqb-false}
+use lib.Dec.{T, leb, ltb, eqb, lt→ltb}
+use lib.ListN.{length, take, drop, get_or, replicate, length-append}
+use lib.Seq.{drop-cons, take_at, length-take-le}
+use lib.Arith.{le→nltb}
+use lib.Ieee.{Float, nan, inf, fin, binary64, is_nan, nan_bits, of_bits, to_bits}
+use lib.Ieee.Bits.{of_bits-to_bits, to_bits-lt, of_bits-fits, nan_bits_is, nan_bits_above}
+use Rattle.numerals.specs.Numbers.{digit_of, glyph_of, number_from, digits_of, double_of, double_text, within64, plain, count_of, places_of}
 use Rattle.numerals.specs.Numbers.{count_text, in20, DoubleBack, PatternBack, CountBack}
 
 pub both_l : (a b : Bool) → (a && b) ≡ true → a ≡ true
 both_l true b e = refl
 both_l false b e = absurd (true≢false (sym e))
-
-pub both_r : (a b : Bool) → (a && b) ≡ true → b ≡ true
-both_r true b e = e
-both_r false b e = absurd (true≢false (sym e))
 
 -- ---- reading on
 
@@ -37,71 +34,28 @@ over_stays b m (c ∷ s) p h =
     cond_none (ltb (digit_of c) b) (number_from b (b * m + digit_of c) s)
     (over_stays b (b * m + digit_of c) s p (omega (arith, le-mul_of_pos_right m p, mul_comm m b)))
 
--- below 2^60 - 1 there is room for a digit
-pub longer_room : (b m d : ℕ) → b ≤ 16 → d < 16 → m < 1152921504606846975 → b * m + d < 2 ^ 64
-longer_room b m d p q h = omega (arith, mul-le-mul_right m p)
-
-pub longer_over : (b m d : ℕ) → 0 < b → (18446744073709551615 - d) / b < m → 2 ^ 64 ≤ b * m + d
-longer_over b m d p h = omega (arith, (div-lt_iff_lt-mul {k = b} {x = 18446744073709551615 - d} {y = m} p).0 h, mul_comm m b)
-
-pub longer_fits : (b m d : ℕ) → 0 < b → d < 2 ^ 64 → m ≤ (18446744073709551615 - d) / b → b * m + d < 2 ^ 64
-longer_fits b m d p q h = omega (arith, (le-div_iff_mul-le {k = b} {x = m} {y = 18446744073709551615 - d} p).0 h, mul_comm m b)
-
-next_at : (x n : ℕ) (v : Bool) → Some n ≡ cond v (Some x) None → n ≡ x
-next_at x n true e = cc
-next_at x n false e = let z : ◌≡◌ {A = ℕ} 0 1 = cc in absurd (omega arith)
-
-pub next_is : (x n : ℕ) → Some n ≡ within64 (Some x) → n ≡ x
-next_is x n e = next_at x n (ltb x (2 ^ 64)) e
-
-fits_at : (x n : ℕ) (v : Bool) → ltb x (2 ^ 64) ≡ v → Some n ≡ cond v (Some x) None → n < 2 ^ 64
-fits_at x n true f e = let k : n ≡ x = cc in omega (arith, ltb-true x (2 ^ 64) f)
-fits_at x n false f e = let z : ◌≡◌ {A = ℕ} 0 1 = cc in absurd (omega arith)
-
-pub next_fits : (x n : ℕ) → Some n ≡ within64 (Some x) → n < 2 ^ 64
-next_fits x n e = fits_at x n (ltb x (2 ^ 64)) refl e
-
-over_at : (x : ℕ) (v : Bool) → ltb x (2 ^ 64) ≡ v → None ≡ cond v (Some x) None → 2 ^ 64 ≤ x
-over_at x true f e = let z : ◌≡◌ {A = ℕ} 0 1 = cc in absurd (omega arith)
-over_at x false f e = ltb-false x (2 ^ 64) f
-
-pub over_is : (x : ℕ) → None ≡ within64 (Some x) → 2 ^ 64 ≤ x
-over_is x e = over_at x (ltb x (2 ^ 64)) refl e
-
-module _ (b m : ℕ) (s : List ℕ) (i : ℕ) where
-  pub read_on_lem : i < length s → digit_of (get_or s i 0) < b → number_from b m (drop i s) ≡ number_from b (b * m + digit_of (get_or s i 0)) (drop (suc i) s)
-  read_on_lem h d = rw (drop-cons s i 0, lt-ltb (digit_of (get_or s i 0)) b d)
-
-  pub read_off : i < length s → b ≤ digit_of (get_or s i 0) → number_from b m (drop i s) ≡ None
-  read_off h d = rw (drop-cons s i 0, le-ltb (digit_of (get_or s i 0)) b d)
-
-  pub read_end : length s ≤ i → number_from b m (drop i s) ≡ Some m
-  read_end h = rw (drop_of_length-le s {i = i} h)
+-- the next digit is too much
+pub read_over : (b m i : ℕ) (s : List ℕ) → 0 < b → i < length s → digit_of (get_or s i 0) < b → 2 ^ 64 ≤ b * m + digit_of (get_or s i 0)
+    → within64 (number_from b m (drop i s)) ≡ None
+read_over b m i s p h d o =
+    rw (drop-cons s i 0, lt-ltb (digit_of (get_or s i 0)) b d) (over_stays b (b * m + digit_of (get_or s i 0)) (drop (suc i) s) p o)
 
 -- ---- writing
-
--- the digit of the last place goes in front of what is written already
-pub spell_step : (b i j n : ℕ) (out : List ℕ) (g : ℕ) → i ≡ suc j → i ≤ length out → g ≡ glyph_of (n % b)
-    → digits_of b i n ++ drop i out ≡ digits_of b j (n / b) ++ drop j (set out j g)
-spell_step b i j n out g k h e =
-    let l : j < length out = omega arith in
-    rw (k, append_assoc, ← e, set_split out j g, drop_at (take j out) (g ∷ drop (suc j) out) j (length-take-le j out (omega arith)))
-
-pub places_step : (more n : ℕ) → more < 19 → 10 ≤ n → more + places_of (19 - more) n ≡ more + 1 + places_of (19 - (more + 1)) (n / 10)
-places_step more n h g =
-    let e : 19 - more ≡ suc (19 - (more + 1)) = omega arith in
-    rw (e, le-ltb n 10 g) (omega arith)
 
 places_last : (k n : ℕ) → n < 10 → places_of k n ≡ 1
 places_last zero n h = refl
 places_last (suc k) n h = rw (lt-ltb n 10 h)
 
-places_at : (more n : ℕ) (v : Bool) → more ≤ 19 → ltb more 19 ≡ v → (v && leb 10 n) ≡ false → places_of (19 - more) n ≡ 1
-places_at more n true h e f = places_last (19 - more) n (leb-false 10 n f)
-places_at more n false h e f = let z : 19 - more ≡ 0 = omega (arith, ltb-false more 19 e) in rw z
-
-pub places_end : (more n : ℕ) → more ≤ 19 → (ltb more 19 && leb 10 n) ≡ false → places_of (19 - more) n ≡ 1
-places_end more n h f = places_at more n (ltb more 19) h refl f
+-- a number has one place more than its logarithm
+places_above : (k j n : ℕ) → j ≤ k → 10 ^ j ≤ n → n < 10 * 10 ^ j → places_of k n ≡ suc j
+places_above k zero n h p q = places_last k n (omega arith)
+places_above zero (suc j) n h p q = absurd (omega arith)
+places_above (suc k) (suc j) n h p q =
+    let one : 10 ^ 0 ≤ 10 ^ j = pow-le-pow_right {n = 10} (omega arith) {i = 0} (omega arith) in
+    let r : 10 ≤ n = omega (arith, one, rw pow-suc at p) in
+    let low : 10 ^ j ≤ n / 10 = (le-div_iff_mul-le {k = 10} {x = 10 ^ j} {y = n} (omega arith)).1 (rw pow-suc at p) in
+    let high : n / 10 < 10 * 10 ^ j = (div-lt_iff_lt-mul {k = 10} {x = n} {y = 10 * 10 ^ j} (omega arith)).1 (omega (arith, rw pow-suc at q)) in
+    rw (le-ltb n 10 r, places_above k j (n / 10) (omega arith) low high)
 
 -- ---- what is written reads back
 
@@ -161,13 +115,42 @@ drop_zeros m zero = let e : m - 0 ≡ m = omega arith in rw e
 drop_zeros zero (suc k) = let e : 0 - suc k ≡ 0 = omega arith in rw e
 drop_zeros (suc m) (suc k) = let e : suc m - suc k ≡ m - k = omega arith in rw e (drop_zeros m k)
 
-pub in_20 : (k n : ℕ) → k ≡ places_of 19 n → digits_of 10 k n ++ drop k (replicate 20 0) ≡ in20 (count_text n)
-unfolding count_text
-in_20 k n e = rw (e, digits_length 10 (places_of 19 n) n, drop_zeros 20 (places_of 19 n))
-
 pub text_length : (n : ℕ) → places_of 19 n ≡ length (count_text n)
 unfolding count_text
 text_length n = sym (digits_length 10 (places_of 19 n) n)
+
+pub short_text : (n : ℕ) → length (count_text n) ≤ 20
+short_text n = omega (arith, text_length n, places_most 19 n)
+
+-- one digit more than the logarithm, where there is one
+pub long_text : (n : ℕ) (o : Option ℕ) → IfNone o (n ≡ 0) → IfSome o (λ k. 10 ^ k ≤ n) → IfSome o (λ k. n < 10 * 10 ^ k) → IfSome o (λ k. k < 20)
+    → unwrap_or o 0 + 1 ≡ length (count_text n)
+long_text n None z p q h = omega (arith, text_length n, places_last 19 n (omega arith))
+long_text n (Some k) z p q h = omega (arith, text_length n, places_above 19 k n (omega arith) p q)
+
+pub digits_text : (n : ℕ) → digits_of 10 (length (count_text n)) n ≡ count_text n
+unfolding count_text
+digits_text n = rw (← text_length n)
+
+-- the digits of a count, spelled into as many of 20 bytes as they need
+module _ (n : ℕ) where
+  abbrev len : ℕ
+  len = length (count_text n)
+
+  abbrev room : List ℕ
+  room = replicate 20 0
+
+  abbrev spelled : List ℕ
+  spelled = digits_of 10 (length (take len room)) n
+
+  pub filled : len ≡ length (take len room)
+  filled = sym (length-take-le len room (short_text n))
+
+  pub written : take len (spelled ++ drop len room) ≡ count_text n
+  written = rw (← filled, digits_text n) (take_at (count_text n) _ len refl)
+
+  pub behind : in20 (count_text n) ≡ spelled ++ drop len room
+  behind = rw (← filled, digits_text n, drop_zeros 20 len)
 
 pub double_back : DoubleBack
 unfolding double_of double_text
@@ -256,51 +239,29 @@ within_16 s l = within_same (number_from 16 0 s) (λ n h. omega (arith, rw l at 
 
 -- ---- not-a-number
 
-pub not_nan : (x : Float) → ne x x ≡ false → T (not (is_nan x))
-unfolding ne is_nan
-not_nan nan h = absurd (true≢false h)
-not_nan (inf s) h = tt
-not_nan (fin s m e) h = tt
+only_nan : (x : Float) → T (is_nan x) → nan ≡ x
+unfolding is_nan
+only_nan nan t = refl
+only_nan (inf s) t = absurd t
+only_nan (fin s m e) t = absurd t
 
-pub nan_made : div binary64 (of_bits binary64 0) (of_bits binary64 0) ≡ nan
-unfolding div of_bits
-nan_made = refl
+-- without its sign's bit, a NaN's pattern is one above that of infinity
+pub nan_above : (b : ℕ) → 0x7ff0_0000_0000_0000 < b % 2 ^ 63 → of_bits binary64 0x7ff8_0000_0000_0000 ≡ of_bits binary64 b
+unfolding of_bits
+nan_above b h = only_nan (of_bits binary64 b) (subst T (sym (nan_bits_above binary64 b) ∙ nan_bits_is binary64 b) (lt→ltb 0x7ff0_0000_0000_0000 (b % 2 ^ 63) h))
 
--- ---- a double's text
+pub no_nan_above : (b : ℕ) → b % 2 ^ 63 ≤ 0x7ff0_0000_0000_0000 → T (not (nan_bits binary64 b))
+no_nan_above b h = subst (λ (v : Bool). T (not v)) (sym (nan_bits_above binary64 b)) (le→nltb 0x7ff0_0000_0000_0000 (b % 2 ^ 63) h)
 
-pub in_16 : (p : ℕ) (x : Float) → p ≡ to_bits binary64 x → digits_of 16 16 p ++ [] ≡ double_text x
-unfolding double_text
-in_16 p x e = append-nil (digits_of 16 16 p) ∙ ap (digits_of 16 16) e
+pub nan_pattern : (x : Float) → is_nan x ≡ true → 0x7ff8_0000_0000_0000 ≡ to_bits binary64 x
+unfolding is_nan to_bits
+nan_pattern nan e = refl
+nan_pattern (inf s) e = absurd (true≢false (sym e))
+nan_pattern (fin s m e) f = absurd (true≢false (sym f))
 
 pub no_double : (s : List ℕ) → (length s ≡ 16 → ⊥) → double_of s ≡ None
 unfolding double_of
 no_double s h = rw (ne_eqb (length s) 16 h)
-
-pub a_double : (s : List ℕ) (o : Option ℕ) → length s ≡ 16 → o ≡ within64 (number_from 16 0 s) → of_pattern o ≡ double_of s
-unfolding double_of
-a_double s o l e = rw (eq-eqb (length s) 16 l) (ap of_pattern (e ∙ within_16 s l))
-
--- ---- a count's first byte
-
-pub no_bytes : (s : List ℕ) → length s ≡ 0 → count_of s ≡ None
-unfolding count_of
-no_bytes [] e = refl
-no_bytes (c ∷ s) e = absurd (omega arith)
-
-pub a_leading_zero : (s : List ℕ) → (ltb 1 (length s) && eqb (get_or s 0 0) 48) ≡ true → count_of s ≡ None
-unfolding count_of
-a_leading_zero [] e = refl
-a_leading_zero (c ∷ []) e = absurd (true≢false (sym e))
-a_leading_zero (c ∷ d ∷ s) e = let z : eqb c 48 ≡ true = both_r (ltb 1 (length (c ∷ d ∷ s))) (eqb c 48) e in rw z
-
-pub no_leading_zero : (s : List ℕ) → (length s ≡ 0 → ⊥) → (ltb 1 (length s) && eqb (get_or s 0 0) 48) ≡ false → count_of s ≡ within64 (number_from 10 0 s)
-unfolding count_of
-no_leading_zero [] h e = absurd (h refl)
-no_leading_zero (c ∷ []) h e = refl
-no_leading_zero (c ∷ d ∷ s) h e =
-    let z : ltb 1 (suc (suc (length s))) ≡ true = lt-ltb 1 (suc (suc (length s))) (omega arith) in
-    let y : eqb c 48 ≡ false = rw z at e in
-    rw y
 
 -- ---- a count of more than 20 digits
 

@@ -9,6 +9,10 @@ use Rattle.std.specs.Float.Ieee.{fits, of_bits, to_bits}
 unfoldable pub digit_of : ℕ → ℕ
 digit_of c = cond (leb 48 c && leb c 57) (c - 48) (cond (leb 97 c && leb c 102) (c - 87) 16)
 
+-- the value of c, where it is a digit in base b
+abbrev pub digit_in : ℕ → ℕ → Option ℕ
+digit_in b c = cond (ltb (digit_of c) b) (Some (digit_of c)) None
+
 -- the digit of a value below 16
 unfoldable pub glyph_of : ℕ → ℕ
 glyph_of d = cond (ltb d 10) (48 + d) (87 + d)

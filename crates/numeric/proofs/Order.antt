@@ -2,7 +2,7 @@
 use mathlib.Core.Path.{◌≡◌, refl}
 use mathlib.Core.Bool.{Bool, true, false, cond}
 use mathlib.Core.Logic.{◌⊎◌, inl, inr}
-use lib.Dec.{T, not_T}
+use lib.Dec.{not_T}
 use lib.Ieee.{Float, nan, inf, fin, lt, le, is_nan}
 use lib.Ieee.Bits.{is_true, is_false}
 use Rattle.std.proofs.lemmas.Float.{T_from_true, T_from_false, lt_irrefl, le_of_not-lt, le_left, le_right}

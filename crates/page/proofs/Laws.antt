@@ -1,8 +1,8 @@
 -- The lists of the report that stands, line by line; the parts of its page; how many lines it has.
 use Rattle.std.specs.Prelude.{Option, None, Some}
-use Prim.Native.Nat.{ℕ, ◌+◌, ◌≤◌}
+use Prim.Native.Nat.{◌+◌, ◌≤◌}
 use mathlib.Core.Path.{◌≡◌, refl, sym, ap, ◌∙◌, subst}
-use mathlib.Core.List.{List, [], ◌++◌, map, append_assoc}
+use mathlib.Core.List.{[], map, append_assoc}
 use native.Mathlib.Omega.{arith}
 use lib.ListN.{length}
 use Rattle.definition.specs.Summary.{Report}
@@ -12,7 +12,6 @@ use Rattle.report.specs.Reading.{of_baseline, HeadOf, Shows, report_in}
 use Rattle.warnings.specs.Warnings.{codes_of}
 use Rattle.editing.specs.Meaning.{state}
 use Rattle.editing.specs.declared.Session.{Session}
-use Rattle.report_text.specs.Writing.{Text}
 use Rattle.report_text.specs.Writer.{Held, put}
 use Rattle.report_text.specs.Lists.{present, separated}
 use Rattle.report_text.proofs.Lengths.{Bounded}

@@ -17,6 +17,8 @@ use report_text::{Places, Writer, put_each};
 
 // ---- the lines of the report's lists
 
+// Kept: these two and the three lists of `answer_text` have one shape. Each has its own text, a ghost, which no closure and no parameter carries.
+
 #[derive(Clone, Copy)]
 struct Shots<'a>(&'a Session);
 

@@ -4,25 +4,21 @@
 use std::io;
 use std::io::{ErrorKind, Read};
 
-// Reads a line of 16 digits and its end; false where the input has no whole one left.
-fn read_line<R: Read>(input: &mut R, line: &mut [u8; 17]) -> io::Result<bool> {
-    match input.read_exact(line) {
-        Ok(()) => Ok(true),
-        Err(e) => {
-            if e.kind() == ErrorKind::UnexpectedEof {
-                return Ok(false);
-            }
-            Err(e)
-        }
+// A line of 16 digits and its end, if the input has a whole one left.
+fn read_line<R: Read>(input: &mut R) -> io::Result<Option<[u8; 17]>> {
+    let mut line = [0; 17];
+    match input.read_exact(&mut line) {
+        Ok(()) => Ok(Some(line)),
+        Err(e) if e.kind() == ErrorKind::UnexpectedEof => Ok(None),
+        Err(e) => Err(e),
     }
 }
 
 // Reads a line, writes its answer, and says whether to go on.
 fn answer<R: Read>(rt: &HostRuntime, input: &mut R) -> io::Result<bool> {
-    let mut line = [0u8; 17];
-    if !read_line(input, &mut line)? {
+    let Some(line) = read_line(input)? else {
         return Ok(false);
-    }
+    };
     if line[16] != 10 {
         return Ok(false);
     }

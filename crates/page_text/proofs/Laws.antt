@@ -5,7 +5,6 @@ use mathlib.Core.Path.{◌≡◌, refl, sym, ap, ◌∙◌}
 use mathlib.Core.Bool.{Bool, true, false, cond}
 use mathlib.Core.List.{List, [], ◌∷◌, ◌++◌, map, append_assoc}
 use native.Mathlib.Omega.{arith}
-use lib.Seq.{take_at}
 use mir.Val.{bool_byte}
 use lib.ListN.{length, take, length-append, length-map}
 use Rattle.definition.specs.Summary.{warn, Band, Report}
@@ -21,7 +20,7 @@ use Rattle.report_text.specs.Writer.{Held, put}
 use Rattle.report_text.specs.Lists.{after_each, separated}
 use Rattle.report_text.proofs.Putting.{put_put}
 use Rattle.page_text.specs.Columns.{blanks, right_aligned, sign_text, three_text, fixed_text, cell_text, row_text}
-use Rattle.numerals.specs.Numbers.{count_text, in20}
+use Rattle.numerals.specs.Numbers.{count_text}
 use Rattle.page_text.proofs.Lengths.{fixed_length}
 use Rattle.page_text.specs.declared.Cell.{Cell}
 use Rattle.page_text.specs.Page.{speed_line, coefficient_line, chi_square_line, shot_line, band_line, warning_line, page_lines, joined_lines, page_text}
@@ -36,9 +35,6 @@ first_blanks (suc n) (suc k) h = ap (λ (t : Text). 32 ∷ t) (first_blanks n k 
 one_if : (b : Bool) → bool_byte b ≡ cond b 1 0
 one_if true = refl
 one_if false = refl
-
-pub digits_are : {digits s : Text} {len : ℕ} → (digits ≡ in20 s) × (len ≡ length s) → take len digits ≡ s
-digits_are {digits} {s} {len} e = ap (take len) e.0 ∙ take_at s _ len (sym e.1)
 
 -- a number is its parts
 pub fixed_put : (minus : Bool) (q : ℕ) {sign room : ℕ} {whole : Text} (h : Held) → whole ≡ count_text (q / 1000) → sign ≡ bool_byte minus

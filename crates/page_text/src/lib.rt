@@ -73,11 +73,12 @@ fn put_sign(w: &mut Writer<'_>, minus: bool)
 }
 
 // So many thousandths in 14 columns.
+#[tactic(auto, using(crate::proofs::Laws::fixed_put))]
 fn put_fixed(w: &mut Writer<'_>, minus: bool, q: u64)
     ensures { Wrote w.old w.new (right_aligned 14 (fixed_text minus q)) }
 {
     let text = numerals::write_count(q / 1000);
-    let whole = &text.digits[..text.len];
+    let whole = text.as_slice();
     let room = BLANKS
         .len()
         .saturating_sub(usize::from(minus) + whole.len() + 4);

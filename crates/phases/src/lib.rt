@@ -23,6 +23,7 @@ pub enum Phase {
     Ended,
 }
 
+// Kept: two places for drops, neither of which is none.
 // Where the drops of a reply go: over the rows, by which of the five questions it answers, or to those at the entered point.
 #[derive(Clone, Copy, PartialEq, Eq)]
 pub enum Lays {

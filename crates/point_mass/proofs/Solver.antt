@@ -1,5 +1,5 @@
 -- What `fill` leaves in a list is the reply of a solver. Assumes nothing.
-use Rattle.std.proofs.Common.{length, arith}
+use Rattle.std.proofs.Common.{length}
 use Rattle.std.proofs.Math.ListN.{length-map}
 use Rattle.likelihood.proofs.Laws.{over_take}
 use Rattle.point_mass.specs.Flight.{entries_at}

@@ -1,7 +1,6 @@
 -- The places and the lengths of the lists, and that a list is read whole by its places.
-use Rattle.std.proofs.Common.{◌≡◌, ℕ, Bool, zero, suc, ◌≤◌, List, [], ◌∷◌, length, refl, sym, ap, ◌∙◌, arith}
+use Rattle.std.proofs.Common.{◌≡◌, ℕ, Bool, zero, suc, List, [], ◌∷◌, length, refl, sym, ◌∙◌, arith}
 use Rattle.std.specs.Prelude.{Option, None, Some, is_some, slice_get}
-use Rattle.std.proofs.lemmas.Option.{slice_get_past}
 use Rattle.definition.specs.Lists.{any, zip_with}
 use Rattle.definition.specs.Request.{Observation, Requested}
 use Rattle.definition.specs.Summary.{converged, ranges_of, observed_min, observed_max, is_outside, report_of, Finished}

@@ -1,11 +1,10 @@
 -- The head of a report over plain values: that the report follows from it and from the places of its lists.
 use Rattle.std.specs.Prelude.{Option, None, Some}
 use Prim.Native.Nat.{◌≤◌}
-use mathlib.Core.Path.{◌≡◌, refl, sym, ap, subst}
+use mathlib.Core.Path.{◌≡◌, refl}
 use mathlib.Core.List.{List}
 use native.Mathlib.Omega.{arith}
 use lib.ListN.{length}
-use Rattle.definition.specs.Meaning.{approximation_says}
 use Rattle.definition.specs.Summary.{Report, Band}
 use Rattle.definition.specs.Summary as summary
 use Rattle.report.specs.Report.{Results, baseline_says, seen_of}

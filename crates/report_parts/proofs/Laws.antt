@@ -75,8 +75,14 @@ module _ (s : Shots) (r : length s.ranges ≡ 64) (d : length s.drops ≡ 64) (g
       let m = at_most s in
       omega arith
 
-  pub counts_results : (predicted : List Float) (drops : Option (List Float)) → length predicted ≡ 64 → ResultsCount s predicted drops s.n
-  counts_results predicted drops p = record { observed = observed; results = results_length predicted p; entered = λ h. results_most drops }
+  pub counts_results : (predicted : List Float) (drops : Option (List Float)) → length predicted ≡ 64 → ((d : List Float) → drops ≡ Some d → length d ≡ 64)
+      → ResultsCount s predicted drops s.n
+  counts_results predicted drops p q = record {
+    observed = observed;
+    results = results_length predicted p;
+    entered = λ d e. results_length d (q d e);
+    at_most = λ h. results_most drops;
+  }
 
 module _ (w : Wanted) (t : StencilRows 64) (e : length w.entries ≡ 64) (p : length t.predicted ≡ 64) (m : length t.by_mv ≡ 64) (b : length t.by_bc ≡ 64) where
   wanted : w.n ≤ 64 → length (requested_in w) ≡ w.n

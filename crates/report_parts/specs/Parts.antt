@@ -32,7 +32,8 @@ baseline_at s entered (Some drops) =
 pub record ResultsCount (s : Shots) (predicted : List Float) (drops : Option (List Float)) (r : ℕ) : Type 0 where
   pub observed : s.n ≤ 64 → length (observations_at s) ≡ r
   pub results : s.n ≤ 64 → length (results_at s predicted) ≡ r
-  pub entered : s.n ≤ 64 → length (baseline_results_at s drops) ≤ r
+  pub entered : (d : List Float) → drops ≡ Some d → s.n ≤ 64 → length (results_at s d) ≡ r
+  pub at_most : s.n ≤ 64 → length (baseline_results_at s drops) ≤ r
 
 -- within the 64 places the count is that of the requested distances, and of their bands
 pub record BandsCount (w : Wanted) (t : StencilRows 64) (r : ℕ) : Type 0 where

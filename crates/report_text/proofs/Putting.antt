@@ -1,16 +1,15 @@
 -- Laws of a writer: one text after another, a byte, a part of a text, a record's fields; and what the lent buffer holds in the end. Assumes nothing.
-use Prim.Native.Nat.{ℕ, zero, suc, ◌+◌, ◌-◌, ◌≤◌, ◌<◌, min}
+use Prim.Native.Nat.{ℕ, ◌+◌, ◌-◌, ◌≤◌, min}
 use mathlib.Core.Path.{◌≡◌, refl, sym, ap, ◌∙◌, subst, subst⁻¹}
 use mathlib.Core.List.{List, [], ◌∷◌, ◌++◌, append-nil, append_assoc}
 use mathlib.Core.Bool.{Bool, true, false}
-use native.Mathlib.Numerals.{add-one}
 use native.Mathlib.Omega.{arith}
 use base.Fml.{GName}
 use borrow.Rule.Slice.PartMut.{put_mid}
 use borrow.Author.Tests.{leb-true, leb-false}
 use lib.Dec.{leb}
-use lib.ListN.{length, take, drop, set, get_or, length-append, length-take, length-drop, take-append-drop}
-use lib.Seq.{take_all, take-append-add, take_at, drop_at, take-length, drop-drop, take-append-le, take-suc, take-suc-set, drop-set-lt, length-take-le}
+use lib.ListN.{length, take, drop, length-append, length-take, take-append-drop}
+use lib.Seq.{take_all, take-append-add, take_at, drop_at, take-length, drop-drop, length-take-le}
 use Rattle.report_text.specs.Writing.{Text, written, Writes}
 use Rattle.words.specs.Words.{bytes}
 use Rattle.report_text.specs.Texts.{led, joined, opened, bracketed}

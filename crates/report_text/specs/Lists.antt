@@ -1,5 +1,5 @@
 -- Lists by their places.
-use Rattle.std.specs.Prelude.{ℕ, zero, suc, Bool, true, false, cond, List, [], ◌∷◌, ◌++◌, Option, None, Some, slice_get}
+use Rattle.std.specs.Prelude.{ℕ, zero, suc, cond, List, [], ◌∷◌, ◌++◌, Option, None, Some, slice_get}
 use Rattle.definition.specs.declared.TruingUncertaintyWarningCodeV1.{TruingUncertaintyWarningCodeV1}
 use Rattle.warnings.specs.Warnings.{stands_in}
 use Rattle.warnings.specs.declared.Warnings.{Warnings}

@@ -9,7 +9,7 @@ ghost use Rattle.report_text.specs.Writer.{Wrote};
 use crate::Writer;
 use words::Word;
 
-// Kept: std's Display is not this: most of these types are of other crates, and it knows no buffer that leaves out what does not fit.
+// Kept: not std's Display. Most of these types are of other crates, and its law is about a Formatter, not about a buffer and what stands behind the text.
 pub trait Text {
     ghost text: { Self → List ℕ };
 
@@ -31,7 +31,7 @@ impl Text for u64 {
 
     fn put(&self, w: &mut Writer<'_>) {
         let text = numerals::write_count(*self);
-        w.put_bytes(&text.digits[..text.len]);
+        w.put_bytes(text.as_slice());
     }
 }
 
@@ -65,7 +65,7 @@ impl<T: Text> Text for Option<T> {
     }
 }
 
-// Two fields as a record.
+// Two, three or four fields as a record.
 impl<A: Text, B: Text> Text for (A, B) {
     ghost text = { λ p. bracketed (A.text p.0 ∷ B.text p.1 ∷ []) };
 
@@ -73,6 +73,33 @@ impl<A: Text, B: Text> Text for (A, B) {
     fn put(&self, w: &mut Writer<'_>) {
         w.open(&self.0);
         w.field(&self.1);
+        w.close();
+    }
+}
+
+impl<A: Text, B: Text, C: Text> Text for (A, B, C) {
+    ghost text = { λ p. bracketed (A.text p.0 ∷ B.text p.1 ∷ C.text p.2 ∷ []) };
+
+    #[tactic(auto, using(crate::proofs::Putting::next_field, crate::proofs::Putting::closing))]
+    fn put(&self, w: &mut Writer<'_>) {
+        let (a, b, c) = self;
+        w.open(a);
+        w.field(b);
+        w.field(c);
+        w.close();
+    }
+}
+
+impl<A: Text, B: Text, C: Text, D: Text> Text for (A, B, C, D) {
+    ghost text = { λ p. bracketed (A.text p.0 ∷ B.text p.1 ∷ C.text p.2 ∷ D.text p.3 ∷ []) };
+
+    #[tactic(auto, using(crate::proofs::Putting::next_field, crate::proofs::Putting::closing))]
+    fn put(&self, w: &mut Writer<'_>) {
+        let (a, b, c, d) = self;
+        w.open(a);
+        w.field(b);
+        w.field(c);
+        w.field(d);
         w.close();
     }
 }

@@ -1,12 +1,10 @@
 -- The request holds the first 65 of the request's lists, with one entry more, and where they are full. Assumes nothing.
-use Rattle.std.proofs.Common.{◌≡◌, ℕ, zero, suc, ◌<◌, List, [], ◌∷◌, ◌++◌, length, take, refl, sym, ap, ◌∙◌, arith, Result, Ok, Err, length-append}
+use Rattle.std.proofs.Common.{◌≡◌, ℕ, zero, suc, ◌<◌, List, [], ◌∷◌, ◌++◌, take, refl, sym, ap, ◌∙◌, arith, Result, Ok, Err, length-append}
 use Rattle.std.specs.Prelude.{OnOk, OnErr, IsOk, ◌↔◌}
 use Rattle.std.proofs.lemmas.List.{take_all, take-append-le}
-use Rattle.arrayvec.specs.ArrayVec.{ArrayVec, array_vec_len}
-use Rattle.definition.specs.Request.{Opening, Observation, Requested}
-use Rattle.definition.specs.declared.TruingPriorsV1.{TruingPriorsV1}
-use Rattle.requests.specs.Request.{with_shot, with_distance, with_priors}
-use Rattle.requests.specs.Kept.{kept, held, Keeps}
+use Rattle.fixed_list.specs.FixedList.{FixedList, list_len}
+use Rattle.definition.specs.Request.{Opening}
+use Rattle.requests.specs.Kept.{Keeps}
 use Rattle.requests.specs.declared.Request.{Request}
 
 -- what is cut off at first is cut off at last
@@ -16,8 +14,8 @@ take_cut (suc n) [] ys = refl
 take_cut (suc n) (x ∷ xs) ys = ap (λ zs. x ∷ zs) (take_cut n xs ys)
 
 -- one more at the end of the first so many of some
-pub pushed : {A E : Type 0} (n : ℕ) (old new : ArrayVec A) (x : A) (r : Result (Unit {0}) E) (xs : List A) → (IsOk r ↔ (array_vec_len old < n))
-    → OnOk r (new.items ≡ old.items ++ (x ∷ [])) → OnErr r (new ≡ old) → OnErr r (array_vec_len old ≡ n) → old.items ≡ take n xs
+pub pushed : {A E : Type 0} (n : ℕ) (old new : FixedList A) (x : A) (r : Result (Unit {0}) E) (xs : List A) → (IsOk r ↔ (list_len old < n))
+    → OnOk r (new.items ≡ old.items ++ (x ∷ [])) → OnErr r (new ≡ old) → OnErr r (list_len old ≡ n) → old.items ≡ take n xs
     → new.items ≡ take n (xs ++ (x ∷ []))
 pushed n old new x (Ok u) xs a b c d e =
     b ∙ sym (take_all n (old.items ++ (x ∷ [])) (omega (arith, length-append old.items (x ∷ []), a.0 refl)))

@@ -8,20 +8,20 @@ ghost use Rattle.requests.specs.Request.{empty_request, with_shot, with_distance
 ghost use Rattle.requests.specs.Kept.{Keeps, held};
 ghost use Rattle.std.specs.Prelude.{Some};
 
-use arrayvec::ArrayVec;
 use definition::{
     NormalPriorV1, Point, TruingPredictionRequestV1, TruingPriorsV1, UncertaintyTruingRequestV1,
     WeightedTruingObservationV1,
 };
 use editing::Answer;
+use fixed_list::FixedList;
 
 // The request so far. Of each list the first 65 are kept: with more than 64 the opening is refused whatever they are.
-#[derive(Drop)]
+#[derive(Clone, Copy)]
 pub struct Request {
     entered: Point,
-    observations: ArrayVec<WeightedTruingObservationV1, 65>,
+    observations: FixedList<WeightedTruingObservationV1, 65>,
     priors: TruingPriorsV1,
-    predictions: ArrayVec<TruingPredictionRequestV1, 65>,
+    predictions: FixedList<TruingPredictionRequestV1, 65>,
 }
 
 impl Request {
@@ -30,12 +30,12 @@ impl Request {
     {
         Request {
             entered,
-            observations: ArrayVec::new(),
+            observations: FixedList::new(),
             priors: TruingPriorsV1 {
                 muzzle_velocity_fps: None,
                 ballistic_coefficient: None,
             },
-            predictions: ArrayVec::new(),
+            predictions: FixedList::new(),
         }
     }
 

@@ -1,14 +1,13 @@
 -- The doubles that have no digits to find: not-a-number, the zeros, the negative ones and infinity, each by the test that the code makes; and the patterns of
 -- the others. Assumes nothing.
-use mathlib.Core.Path.{◌≡◌, refl, sym, ap, ◌∙◌, subst}
-use mathlib.Core.Logic.{◌≢◌, inl, inr}
+use mathlib.Core.Path.{◌≡◌, refl, sym, ap, ◌∙◌}
+use mathlib.Core.Logic.{◌≢◌}
 use Prim.Native.Nat.{ℕ, zero, suc, ◌*◌, ◌+◌, ◌%◌, ◌/◌, ◌^◌, ◌≤◌, ◌<◌}
-use native.Mathlib.Nat.{eq-zero-or-pos, lt_of_not-le, mul-pos}
+use native.Mathlib.Nat.{lt_of_not-le, mul-pos}
 use native.Mathlib.Omega.{arith}
-use mathlib.Core.Bool.{Bool, true, false, not, cond}
+use mathlib.Core.Bool.{Bool, true, false, cond}
 use borrow.Author.Tests.{eq-eqb, eqb-true, le-leb, ltb-true, ltb-false}
-use lib.IntN.{ℤ, pos}
-use lib.Dec.{T, leb, eqb}
+use lib.Dec.{eqb}
 use lib.Ieee.{Float, nan, inf, fin, binary64, up, down, odd, lt, eq, fits, is_nan, of_fields, of_bits, to_bits}
 use lib.Ieee.Bits.{is_true, of_bits-to_bits}
 use lib.Ieee.Fits.{up_pos, and_l}

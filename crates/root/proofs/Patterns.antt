@@ -3,17 +3,16 @@
 use mathlib.Core.Path.{◌≡◌, refl, sym, ap, ◌∙◌, subst}
 use mathlib.Core.Logic.{◌≢◌, inl, inr}
 use Prim.Native.Nat.{ℕ, zero, suc, ◌+◌, ◌-◌, ◌*◌, ◌/◌, ◌%◌, ◌^◌, ◌≤◌, ◌<◌}
-use native.Mathlib.Nat.{le-add_right, not-suc-le-zero, le_of_suc-le-suc, le_trans, lt_of_lt_of_le, lt_of_le_of_lt, not-le_of_lt, eq-or-lt_of_le}
-use native.Mathlib.Nat.{mod-eq_of_lt, mul-le-mul_right, mul-le-mul_left, mul-lt-mul_of_pos_right, pow-succ', mul-div_cancel, mul-one}
+use native.Mathlib.Nat.{le-add_right, not-suc-le-zero, le_of_suc-le-suc, le_trans, lt_of_lt_of_le, lt_of_le_of_lt, eq-or-lt_of_le}
+use native.Mathlib.Nat.{mul-le-mul_right, mul-le-mul_left, mul-lt-mul_of_pos_right, pow-succ', mul-div_cancel, mul-one}
 use native.Mathlib.Omega.{arith}
 use mathlib.Core.Bool.{Bool, true, false, not, cond, true≢false}
 use lib.IntN.{ℤ}
-use lib.Arith.{le→nltb}
-use lib.Dec.{T, nltb→le, leb, ltb, eqb, leb→le, eqb→eq, not_T, lt→ltb, lit<}
+use lib.Dec.{T, nltb→le, leb, ltb, lt→ltb, lit<}
 use lib.Pow.{pow_pos, pow_mono, pow-add, pow-lt}
 use borrow.Author.Tests.{ne_eqb, lt-leb}
 use lib.Ieee.{Float, nan, inf, fin, binary64, odd, units, size, up, down, of_fields, of_bits, to_bits, fits, is_nan, nan_bits}
-use lib.Ieee.Bits.{is_true, is_false, cond_no, of_bits-to_bits, of_bits-fits, nan_bits_is, nan_bits_above}
+use lib.Ieee.Bits.{is_true, of_bits-to_bits, of_bits-fits, nan_bits_is, nan_bits_above}
 use lib.Ieee.Fits.{odd-fits, down_pos}
 use lib.Ieee.Exact.{HasValue, odd_sign, units_val}
 use Rattle.std.proofs.lemmas.Float.{not_nan_f64_bits}

@@ -2,13 +2,12 @@
 use mathlib.Core.Path.{◌≡◌, sym, ap, ◌∙◌}
 use mathlib.Core.Logic.{inl, inr}
 use Prim.Native.Nat.{ℕ, zero, suc, ◌+◌, ◌-◌, ◌*◌, ◌/◌, ◌%◌, ◌^◌, ◌≤◌, ◌<◌}
-use native.Mathlib.Nat.{le_of_eq, le_trans, lt_of_le_of_lt, lt_of_lt_of_le, eq-zero-or-pos, mod-eq_of_lt, mul_assoc, mul-le-mul_right, mul-lt-mul_of_pos_right}
-use native.Mathlib.Nat.{pow-succ'}
+use native.Mathlib.Nat.{lt_of_le_of_lt, eq-zero-or-pos, mod-eq_of_lt, mul_assoc, mul-le-mul_right, mul-lt-mul_of_pos_right}
 use native.Mathlib.Omega.{arith}
 use lib.Pow.{pow_pos, pow-add}
 use lib.Ieee.{size}
-use lib.Ieee.Digits.{size-lt, size-le, size_reaches}
-use Rattle.root.specs.Nearest.{magnitude, infinity, exact}
+use lib.Ieee.Digits.{size-lt, size_reaches}
+use Rattle.root.specs.Nearest.{infinity, exact}
 use Rattle.root.specs.Steps.{Scales}
 use Rattle.root.proofs.Squares.{power_lt, twice_pred}
 use Rattle.root.proofs.Patterns.{subnormal, normal}

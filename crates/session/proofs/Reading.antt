@@ -13,7 +13,7 @@ use Rattle.bands.specs.Bands.{band_says}
 use Rattle.bands.specs.declared.TruingPredictiveBandV1.{TruingPredictiveBandV1}
 use Rattle.lists.specs.Lists.{requested_in, observations_at}
 use Rattle.report.specs.Report as head
-use Rattle.report.specs.Report.{baseline_says, seen_of, PartsOf}
+use Rattle.report.specs.Report.{baseline_says, seen_of}
 use Rattle.report.specs.Reading.{of_baseline, HeadOf, report_in, ReportRead, ResultRead, BaselineResultRead, BandRead}
 use Rattle.report.specs.declared.TruingBaselineV1.{TruingBaselineV1}
 use Rattle.report.specs.declared.UncertaintyTruingReportV1.{UncertaintyTruingReportV1}
@@ -95,7 +95,7 @@ module _ (s : Session) (h : UncertaintyTruingReportV1) (n m : ℕ) (baseline : O
     baseline_results =
         let l = at_most h.baseline (baseline_results_at s.body.shots s.body.baseline) in
         let e = ap (λ (p : Report). length (of_baseline p.baseline)) seen in
-        let k = results.entered few_shots in
+        let k = results.at_most few_shots in
         let m = shows.results in
         omega arith;
     bands = shows.bands ∙ sym (ap (λ (p : Report). length p.bands) seen ∙ bands.bands (approximation_says h.approximation) few_wanted);

@@ -43,10 +43,11 @@ pub struct Session {
     asked: u64,
 }
 
+// What a call says, and the session afterwards, of this type or of one over it.
 #[derive(Clone, Copy)]
-pub struct Answer {
+pub struct Answer<S = Session> {
     pub step: Step,
-    pub session: Session,
+    pub session: S,
 }
 
 // ---- counting and declining

@@ -7,7 +7,7 @@ use Rattle.definition.specs.Likelihood as likelihood
 use Rattle.definition.specs.Likelihood.{Rows}
 use Rattle.definition.specs.declared.Point.{Point}
 use Rattle.slices.specs.Slices.{laid_over}
-use Rattle.likelihood.proofs.Laws.{over_length, over_take, over_zip}
+use Rattle.likelihood.proofs.Laws.{over_take, over_zip}
 use Rattle.stencil.specs.Stencil.{stencil, stencil_next, point_at, next_of, after_reply, rows_next, laid_rows}
 use Rattle.stencil.specs.declared.StencilPoint.{StencilPoint}
 use Rattle.stencil.specs.declared.StencilPoint.TheVariants.{Nominal, MvPlus, MvMinus, BcPlus, BcMinus}

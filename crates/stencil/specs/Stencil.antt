@@ -1,6 +1,6 @@
 -- The five questions about a list of distances (`truing_jacobian_rows`), one after another: what is left of them before each reply, and the rows with one reply
 -- more.
-use Rattle.std.specs.Prelude.{ℕ, List, map, Float, take, Option, None, Some}
+use Rattle.std.specs.Prelude.{ℕ, List, map, take, Option, None, Some}
 use Rattle.definition.specs.Lists.{first_of}
 use Rattle.definition.specs.Run.{Run, done, Entry, Reading, reading_of, drop_or0, Which}
 use Rattle.definition.specs.Likelihood as likelihood

@@ -60,6 +60,7 @@ impl StencilPoint {
     }
 }
 
+// Kept: 0 where there is no gap. A gap is the definition's `first_at`, whose number a refusal names; an Option would be made from it and turned back.
 // The rows of the five questions as far as they have been answered, in the first places, and the position of the first gap, 0 where there is none.
 #[derive(Clone, Copy)]
 pub struct StencilRows<const N: usize> {

@@ -1,6 +1,6 @@
 -- The input byte by byte. Assumes nothing.
-use Rattle.std.specs.Prelude.{Option, None, Some, is_some}
-use Prim.Native.Nat.{ℕ, ◌+◌, ◌≤◌, ◌<◌, min}
+use Rattle.std.specs.Prelude.{Option, None, Some}
+use Prim.Native.Nat.{ℕ, ◌+◌, ◌≤◌, ◌<◌}
 use mathlib.Core.Path.{◌≡◌, refl, sym, ap, ◌∙◌, subst}
 use mathlib.Core.Bool.{Bool, true, false, cond}
 use mathlib.Core.List.{List, [], ◌∷◌, ◌++◌, append_assoc, append-nil}
@@ -8,8 +8,8 @@ use native.Mathlib.Numerals.{add-one}
 use native.Mathlib.Omega.{arith}
 use borrow.Author.Tests.{leb-true, leb-false, eq-eqb, ne_eqb}
 use lib.Dec.{eqb, leb}
-use lib.ListN.{length, take, drop, set, get_or, length-append, length-set, length-take, drop_of_length-le}
-use lib.Seq.{drop-cons, take_all, take-suc-set, take-append-le}
+use lib.ListN.{length, take, drop, get_or, length-take, drop_of_length-le}
+use lib.Seq.{drop-cons, take_all}
 use Rattle.lines.specs.Lines.{form_of, words_of, put_first}
 use Rattle.lines.specs.Reading.{start_of, take_of, form_if, short, read_rest, read_all}
 use Rattle.lines.specs.declared.Line.{Line}
@@ -17,12 +17,11 @@ use Rattle.lines.proofs.Lines.{line_form, long_same}
 use Rattle.report_text.specs.Writing.{Text}
 use Rattle.conversation.specs.Conversation.{Conversation, Answered, unended_text, next_line, answer_to, text_of, initial}
 use Rattle.stream.specs.Output.{unended, on_first, lines_of, answers_to, output_of}
-use Rattle.stream.specs.Bytes.{Cut, uncut, cut_byte, cut_from, some, Reads, line_in, ends_in, rest_in, next_in, Scans, output_from, Feeds}
+use Rattle.stream.specs.Bytes.{Cut, uncut, cut_byte, cut_from, some, Reads, line_in, ends_in, rest_in, Scans, output_from, Feeds}
 use Rattle.conversation.specs.Tracks.{Tracks, Fills, Answers}
 use Rattle.conversation.specs.declared.Conversation.{Conversation as Held}
 use Rattle.conversation.proofs.Replies.{answer_short}
-use Rattle.arrayvec.specs.ArrayVec.{ArrayVec, array_vec_len}
-use Rattle.stream.specs.declared.Fed.{Fed}
+use Rattle.fixed_list.specs.FixedList.{FixedList}
 use Rattle.stream.specs.declared.State.{State}
 use Rattle.stream.specs.declared.Reader.{Reader}
 
@@ -142,7 +141,7 @@ module _ (r : Reader) (s : List ℕ) (k : Reads r s) where
         (record { line = take_of (cut_from uncut s).line (cut_from uncut s).word (cut_from uncut s).first false; first = false; word = [] })
         (record { line = (cut_from uncut s).line; first = (cut_from uncut s).first; word = (cut_from uncut s).word ++ (c ∷ []) })) e
 
-    pub reads_blank : (l : Option Line) (w : ArrayVec ℕ) → eqb c 32 ≡ true → l ≡ take_of r.line r.word.items r.first false → w.items ≡ []
+    pub reads_blank : (l : Option Line) (w : FixedList ℕ) → eqb c 32 ≡ true → l ≡ take_of r.line r.word.items r.first false → w.items ≡ []
         → Reads (record { line = l; word = w; first = false; begun = true }) (s ++ (c ∷ []))
     reads_blank l w e f g =
         let q = sym (blank_cut e) in
@@ -153,7 +152,7 @@ module _ (r : Reader) (s : List ℕ) (k : Reads r s) where
           word = g ∙ ap (λ (y : Cut). take 32 y.word) q;
         }
 
-    pub reads_more : (w : ArrayVec ℕ) → eqb c 32 ≡ false → w.items ≡ take 32 ((cut_from uncut s).word ++ (c ∷ []))
+    pub reads_more : (w : FixedList ℕ) → eqb c 32 ≡ false → w.items ≡ take 32 ((cut_from uncut s).word ++ (c ∷ []))
         → Reads (record { line = r.line; word = w; first = r.first; begun = true }) (s ++ (c ∷ []))
     reads_more w e f =
         let q = sym (other_cut e) in

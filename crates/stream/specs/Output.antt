@@ -1,5 +1,5 @@
 -- The line protocol from the bytes of standard input to those of standard output: `output_of`. It reads beside docs/PROTOCOL.md. What a line is, is `form_of`
--- (forms), and what is answered to it `answer_to` (conversation).
+-- (lines), and what is answered to it `answer_to` (conversation).
 use Rattle.std.specs.Prelude.{ℕ, cond, List, [], ◌∷◌, ◌++◌, eqb}
 use Rattle.lines.specs.Lines.{form_of}
 use Rattle.report_text.specs.Writing.{Text}

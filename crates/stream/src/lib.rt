@@ -1,30 +1,23 @@
 // Standard input as it comes, in any pieces: bytes become lines, and each line gets its answer in a lent buffer.
 #![tactic(auto)]
 
-ghost use Rattle.std.specs.Prelude.{◌≡◌, List, [], ◌∷◌, ◌++◌, ℕ};
+ghost use Rattle.std.specs.Prelude.{◌≡◌, true, false, List, [], ◌∷◌, ◌++◌, ℕ};
 ghost use Rattle.lines.specs.Reading.{take_of};
 ghost use Rattle.conversation.specs.Conversation.{initial};
 ghost use Rattle.stream.specs.Bytes.{Reads, Scans, Holds, Feeds, Finishes};
 
-use arrayvec::ArrayVec;
 use conversation::Conversation;
+use fixed_list::FixedList;
 use lines::Line;
 
 // The line that is being read: its words so far, if they can still be a form, and the one that is being read, whether that is the first, and whether the line
 // has a byte. A word of a form has at most 20 bytes, or 22 with both parentheses: of a longer one 32 are kept, so that it stays too long.
-#[derive(Drop)]
+#[derive(Clone, Copy)]
 pub struct Reader {
     line: Option<Line>,
-    word: ArrayVec<u8, 32>,
+    word: FixedList<u8, 32>,
     first: bool,
     begun: bool,
-}
-
-#[tactic(auto, unfolding(lines::specs::Reading::take_of))]
-fn taken(line: Option<Line>, word: &[u8], first: bool, last: bool) -> Option<Line>
-    ensures { result ≡ take_of line word.now first last }
-{
-    line?.take(word, first, last)
 }
 
 impl Reader {
@@ -33,9 +26,31 @@ impl Reader {
     {
         Reader {
             line: Some(Line::new()),
-            word: ArrayVec::new(),
+            word: FixedList::new(),
             first: true,
             begun: false,
+        }
+    }
+
+    // The line with the word that is read, with a blank behind it.
+    #[tactic(auto, unfolding(lines::specs::Reading::take_of))]
+    fn taken(&self) -> Option<Line>
+        ensures { result ≡ take_of self.now.line self.now.word.items self.now.first false }
+    {
+        match self.line {
+            Some(line) => line.take(self.word.as_slice(), self.first),
+            None => None,
+        }
+    }
+
+    // The line, whose last word that is.
+    #[tactic(auto, unfolding(lines::specs::Reading::take_of))]
+    fn ended(&self) -> Option<Line>
+        ensures { result ≡ take_of self.now.line self.now.word.items self.now.first true }
+    {
+        match self.line {
+            Some(line) => line.end(self.word.as_slice(), self.first),
+            None => None,
         }
     }
 
@@ -45,8 +60,8 @@ impl Reader {
     {
         self.begun = true;
         if c == b' ' {
-            self.line = taken(self.line.take(), self.word.as_slice(), self.first, false);
-            self.word.clear();
+            self.line = self.taken();
+            self.word = FixedList::new();
             self.first = false;
         } else {
             let _ = self.word.try_push(c);
@@ -68,7 +83,7 @@ impl Reader {
     }
 }
 
-#[derive(Drop)]
+#[derive(Clone, Copy)]
 pub struct State {
     reader: Reader,
     conversation: Conversation,
@@ -101,12 +116,7 @@ impl State {
                 len: 0,
             };
         };
-        let line = taken(
-            self.reader.line.take(),
-            self.reader.word.as_slice(),
-            self.reader.first,
-            true,
-        );
+        let line = self.reader.ended();
         self.reader = Reader::new();
         let len = self.conversation.answer(line, out);
         Fed { at: next, len }

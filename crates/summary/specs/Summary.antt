@@ -1,11 +1,10 @@
 -- What the answers of this crate say in the definition's terms; and the definition's diagnostics by what the code reads.
 -- proofs/Laws.antt shows that these are the definition's.
-use Rattle.std.specs.Prelude.{ℕ, Option, None, Some}
+use Rattle.std.specs.Prelude.{ℕ}
 use Rattle.numeric.specs.Numeric.{zero64}
 use Rattle.definition.specs.Mesh.{Convergence}
 use Rattle.definition.specs.Summary.{Approximation, Diagnostics, diagnostics_of}
 use Rattle.definition.specs.declared.Evaluation.{Evaluation}
-use Rattle.definition.specs.declared.TruingMapConvergenceCriterionV1.{TruingMapConvergenceCriterionV1}
 use Rattle.summary.specs.declared.TruingUncertaintyDiagnosticsV1.{TruingUncertaintyDiagnosticsV1}
 
 abbrev pub diagnostics_says : TruingUncertaintyDiagnosticsV1 → Diagnostics

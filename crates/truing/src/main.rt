@@ -1,5 +1,5 @@
 // The line protocol over standard input and output: a host's lines are answered one by one, and each answer is written out before the next line is read.
-// `begin`, `feed` and `finish` are the library's, with what theorem `output` of `stream` assumes of them: however the input is cut into pieces, the bytes that
+// `begin`, `feed` and `finish` are those of `stream`, with what its theorem `output` assumes of them: however the input is cut into pieces, the bytes that
 // they leave in the buffer are those of the protocol's definition. What follows them is the loop that reads, calls and writes.
 #![tactic(auto)]
 
@@ -42,6 +42,7 @@ fn write_out(rt: &HostRuntime, out: &[u8; 32768], end: usize) {
 fn take_bytes(rt: &HostRuntime, s: &mut State, bytes: &[u8]) {
     let mut out = [0u8; 32768];
     let mut at = 0usize;
+    // Kept: `feed` says where to go on. Its promise is about a place in the bytes, with which theorem `output` goes on.
     while at < bytes.len() {
         let fed = feed(s, bytes, at, &mut out);
         write_out(rt, &out, fed.len);

@@ -1,5 +1,5 @@
 -- The word of the code that a list of bytes is: the search finds the one at its place. Assumes nothing.
-use Rattle.std.proofs.Common.{◌≡◌, ℕ, zero, suc, ◌+◌, ◌<◌, ◌≤◌, ◌&&◌, arith, Bool, true, false, cond, List, [], ◌∷◌, map, length, find, slice_get, refl, sym, ap, ◌∙◌, Option, None, Some}
+use Rattle.std.proofs.Common.{◌≡◌, ℕ, zero, suc, ◌+◌, ◌<◌, ◌≤◌, ◌&&◌, arith, Bool, true, false, cond, List, [], ◌∷◌, map, length, find, slice_get, refl, ap, ◌∙◌, None, Some}
 use Rattle.std.proofs.lemmas.Option.{slice_get_past}
 use lib.Dec.{eqb, ltb}
 use native.Mathlib.Nat.{le_of_suc-le-suc, not-suc-le-zero}

@@ -2,8 +2,8 @@
 use Prim.Native.Nat.{ℕ}
 use mathlib.Core.Path.{sym, ap, ◌∙◌}
 use mathlib.Core.List.{List}
-use Rattle.std.specs.Prelude.{Ok, Err}
-use Rattle.matrix.specs.Matrix.{Inverted, inverse, non_finite, rank_deficient, says}
+use Rattle.std.specs.Prelude.{Err}
+use Rattle.matrix.specs.Matrix.{inverse, non_finite, rank_deficient, says}
 use Rattle.matrix.specs.declared.Symmetric2.{Symmetric2}
 use Rattle.matrix.specs.declared.InverseError.{InverseError}
 use Rattle.c_api.specs.Desk.{inverse_outcome}

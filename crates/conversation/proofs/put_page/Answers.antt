@@ -1,11 +1,9 @@
 -- `conversation::put_page` meets its contract. Assumes nothing.
-use Rattle.std.proofs.Common.{ap, ◌∙◌, ◌++◌}
 use Rattle.report.specs.Reading.{report_in}
 use Rattle.editing.specs.Meaning.{state}
 use Rattle.page_text.specs.Page.{page_in}
 use Rattle.report_text.proofs.Writing.{then, as_text}
-use Rattle.answer_text.specs.Answers.{line}
-use Rattle.conversation.proofs.Responses.{page_word, page_head}
+use Rattle.conversation.proofs.Responses.{page_head}
 use Rattle.conversation.proofs.put_page.Goals as goal
 
 pub returns : goal.returns

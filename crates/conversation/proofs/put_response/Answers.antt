@@ -1,5 +1,5 @@
 -- `conversation::put_response` meets its contract. Assumes nothing.
-use Rattle.std.proofs.Common.{rules, ◌≡◌, ap, sym, ◌∙◌, refl}
+use Rattle.std.proofs.Common.{rules, ◌≡◌, ap, sym, ◌∙◌}
 use native.Mathlib.Numerals.{unary_clauses}
 use Rattle.report_text.proofs.Writing.{as_text, nothing}
 use Rattle.report_text.specs.Texts.{asked_text, malformed_text}

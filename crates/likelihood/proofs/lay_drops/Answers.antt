@@ -1,5 +1,5 @@
 -- `lay_drops` meets its contract: the first `i` drops are laid over the slice. Assumes nothing.
-use Rattle.std.proofs.Common.{map, length, arith, ◌∙◌}
+use Rattle.std.proofs.Common.{map, arith, ◌∙◌}
 use Rattle.std.proofs.Math.ListN.{length-map, length-set}
 use Rattle.definition.specs.Run.{drop_or0}
 use Rattle.likelihood.proofs.Laws.{laid_suc, drop_at, over_all}

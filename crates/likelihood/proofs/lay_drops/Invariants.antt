@@ -1,5 +1,5 @@
 -- `lay_drops` meets its contract: the first `i` drops are laid over the slice. Assumes nothing.
-use Rattle.std.proofs.Common.{◌≡◌, ◌≤◌, length, take, map, min}
+use Rattle.std.proofs.Common.{◌≡◌, length, take, map}
 use Rattle.definition.specs.Run.{drop_or0}
 use Rattle.slices.specs.Slices.{laid_over}
 use Rattle.likelihood.proofs.lay_drops.Given as goal

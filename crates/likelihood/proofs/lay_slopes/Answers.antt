@@ -1,5 +1,5 @@
 -- `lay_slopes` meets its contract: the first `i` slopes are laid over the slice, and the drops after them are still there. Assumes nothing.
-use Rattle.std.proofs.Common.{ℕ, ◌+◌, ◌<◌, ◌≤◌, ◌≡◌, List, map, length, get_or, set, take, arith, ap, sym, ◌∙◌, unwrap_or, None}
+use Rattle.std.proofs.Common.{ℕ, ◌+◌, ◌<◌, ◌≡◌, List, map, length, get_or, set, take, arith, ap, sym, ◌∙◌, unwrap_or, None}
 use Rattle.std.proofs.Math.ListN.{length-map, length-set, length-take}
 use Rattle.std.specs.Prelude.{Float}
 use Rattle.std.specs.Float.{nan}

@@ -1,5 +1,5 @@
 -- `lay_slopes` meets its contract: the first `i` slopes are laid over the slice, and the drops after them are still there. Assumes nothing.
-use Rattle.std.proofs.Common.{◌≡◌, ◌≤◌, length, take, map, min}
+use Rattle.std.proofs.Common.{◌≡◌, length, take, map}
 use Rattle.definition.specs.Run.{drop_or0}
 use Rattle.definition.specs.Likelihood.{slopes}
 use Rattle.slices.specs.Slices.{laid_over}

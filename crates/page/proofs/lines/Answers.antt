@@ -1,11 +1,8 @@
 -- `lines`: three, one for each observation and each band, and those of the warnings.
-use Rattle.std.specs.Prelude.{Option}
-use mathlib.Core.Path.{sym, ap, subst}
+use mathlib.Core.Path.{sym}
 use native.Mathlib.Omega.{arith}
-use lib.ListN.{length}
 use Rattle.editing.specs.Meaning.{state}
-use Rattle.report.specs.Reading.{Shows, report_in}
-use Rattle.report.specs.declared.UncertaintyTruingReportV1.{UncertaintyTruingReportV1}
+use Rattle.report.specs.Reading.{report_in}
 use Rattle.answer_text.proofs.Fits.{shown_bounded}
 use Rattle.page.proofs.Laws.{counts_within, lines_are, no_lines}
 use Rattle.page.proofs.lines.Goals as goal

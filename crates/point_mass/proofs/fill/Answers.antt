@@ -1,8 +1,7 @@
 -- `fill` meets its contract: the first `i` entries are laid over the list. Assumes nothing.
-use Rattle.std.proofs.Common.{◌≡◌, length, arith, ap, ◌∙◌, add-one, List, set, take}
+use Rattle.std.proofs.Common.{arith, ◌∙◌, add-one}
 use Rattle.std.proofs.Math.ListN.{length-map, length-set, get_or-map}
-use Rattle.std.specs.Float.{Float, nan}
-use Rattle.slices.specs.Slices.{laid_over}
+use Rattle.std.specs.Float.{nan}
 use Rattle.definition.specs.Run as run
 use Rattle.point_mass.specs.Flight.{entry_at, entries_at}
 use Rattle.likelihood.proofs.Laws.{over_suc, over_all}

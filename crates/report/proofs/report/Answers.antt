@@ -1,5 +1,5 @@
 -- `report::report` meets its contract, by those of its calls, put together over plain values.
-use Rattle.std.proofs.Common.{◌≡◌, ℕ, ◌-◌, Bool, List, Option, Result, refl, ◌∙◌}
+use Rattle.std.proofs.Common.{◌≡◌, ℕ, ◌-◌, Bool, Option, Result, refl, ◌∙◌}
 use Rattle.definition.specs.Likelihood.{rows_of}
 use Rattle.definition.specs.Lists.{zip_with}
 use Rattle.definition.specs.Summary.{Finished, results_of, converged, approximation_of, band_of, report_of}

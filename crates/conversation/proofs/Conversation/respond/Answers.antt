@@ -1,13 +1,10 @@
 -- `conversation::Conversation::respond` meets its contract: a line by its form, in its place or not. Assumes nothing.
-use Rattle.std.proofs.Common.{rules, ◌≡◌, ◌∙◌, ap, sym, refl, Some, None, not}
-use Rattle.definition.specs.Request.{Opening}
-use Rattle.definition.specs.Session.{says_of}
+use Rattle.std.proofs.Common.{rules, ◌≡◌, ◌∙◌, sym, refl, Some, None, not}
 use Rattle.definition.specs.Whole as edits
 use Rattle.demands.specs.Calls.{reply, refuse_point, change}
 use Rattle.lines.specs.declared.Form.TheVariants as form
-use Rattle.requests.specs.Request.{empty_request, with_shot, with_speed, with_coefficient, with_distance}
-use Rattle.conversation.specs.Conversation.{answer_to, takes_shot, takes_coefficient, takes_distance, collected, opens}
-use Rattle.conversation.specs.declared.Section.TheVariants.{Closed, Shots, Priors, Distances}
+use Rattle.conversation.specs.Conversation.{answer_to, takes_shot, takes_coefficient, takes_distance}
+use Rattle.conversation.specs.declared.Section.TheVariants.{Shots, Priors, Distances}
 use Rattle.conversation.proofs.Responses.{timely, late, is_shots, by_form, collected_responds, open_responds, asked_responds, page_responds, malformed_responds}
 use Rattle.conversation.proofs.Conversation.respond.Goals.{in_default-via-in-Some-Shot+else-matches, in_default-via-in-Some-PriorSpeed+else-matches-2, in_default-via-in-Some-PriorCoefficient+else-matches-3, in_default-via-in-Some-Distance+else-not-matches, in_default-via-in-Some-Open+else-not-matches-2, in_default-via-in_default, in-Shots, in_default-matches, in-Shots-matches, in_default-matches-2, in-Shots-matches-2, in_default-matches-3, in-Closed, in_default-matches-4, in-Closed-matches, in_default-matches-5}
 use Rattle.conversation.proofs.Conversation.respond.Goals as goal

@@ -1,5 +1,5 @@
 -- `chi_square` meets its contract: the sum is that of the first `i` observations. Assumes nothing.
-use Rattle.std.proofs.Common.{ℕ, suc, ◌+◌, ◌<◌, ◌≡◌, List, length, get_or, take, sym, ap, arith, add-one, ◌∙◌}
+use Rattle.std.proofs.Common.{ℕ, suc, ◌<◌, ◌≡◌, List, length, get_or, take, sym, ap, arith, add-one, ◌∙◌}
 use Rattle.std.specs.Prelude.{Float}
 use Rattle.std.specs.Float.{nan}
 use Rattle.numeric.specs.Numeric.{zero64}

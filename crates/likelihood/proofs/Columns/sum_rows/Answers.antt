@@ -1,5 +1,5 @@
 -- `sum_rows` meets its contract: the sums are those of the first `i` observations and rows. Assumes nothing.
-use Rattle.std.proofs.Common.{ℕ, suc, ◌+◌, ◌<◌, ◌≡◌, List, length, get_or, take, sym, ap, arith, add-one, ◌∙◌}
+use Rattle.std.proofs.Common.{ℕ, suc, ◌<◌, ◌≡◌, List, length, get_or, take, sym, ap, arith, add-one, ◌∙◌}
 use Rattle.std.specs.Prelude.{Float}
 use Rattle.std.specs.Float.{nan}
 use Rattle.definition.specs.Lists.{fold_pairs, zip_with3}

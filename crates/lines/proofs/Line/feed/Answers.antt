@@ -1,9 +1,9 @@
 -- `lines::Line::feed` meets its contract. Assumes nothing.
-use Rattle.std.proofs.Common.{rules, sym, ap, ◌∙◌, ◌≡◌, Some}
+use Rattle.std.proofs.Common.{rules, sym, ◌∙◌, ◌≡◌}
 use Rattle.std.proofs.Common.{length, refl}
 use borrow.Author.Tests.{le-ltb}
 use Rattle.words.specs.declared.Word.TheVariants as word
-use Rattle.lines.specs.Reading.{feed_of, entries_with, after_first, reading_or}
+use Rattle.lines.specs.Reading.{feed_of, after_first, reading_or}
 use Rattle.lines.proofs.Pushing.{pushed, after_none, after_some}
 use Rattle.lines.proofs.Line.feed.Goals.{then-is_empty, else-is_empty}
 use Rattle.lines.proofs.Line.feed.Goals as goal

@@ -1,6 +1,6 @@
 -- `report_text::put_each` meets its contract. Assumes nothing.
-use Rattle.std.specs.Prelude.{Option, Some, None, option_map}
-use Rattle.std.proofs.Common.{◌≡◌, refl, sym, ap, ◌∙◌, true, false}
+use Rattle.std.specs.Prelude.{option_map}
+use Rattle.std.proofs.Common.{refl, sym, ap, ◌∙◌, true, false}
 use Rattle.report_text.specs.Writer.{held}
 use Rattle.report_text.proofs.Listing.{none_there, put_first, put_later, nil_no_more}
 use Rattle.report_text.proofs.Putting.{put_nothing}

@@ -1,6 +1,4 @@
 -- `requests::Request::push_distance`: a distance more, or the list is full. Assumes nothing.
-use Rattle.definition.specs.Request.{Opening}
-use Rattle.requests.specs.Kept.{Keeps}
 use Rattle.requests.proofs.Kept.{pushed, requested_in}
 use Rattle.requests.proofs.Request.push_distance.Goals as goal
 

@@ -1,6 +1,4 @@
 -- `requests::Request::push_shot`: a shot more, or the list is full. Assumes nothing.
-use Rattle.definition.specs.Request.{Opening}
-use Rattle.requests.specs.Kept.{Keeps}
 use Rattle.requests.proofs.Kept.{pushed, observations_in}
 use Rattle.requests.proofs.Request.push_shot.Goals as goal
 

@@ -1,6 +1,6 @@
 -- `stream::State::feed` meets its contract: up to the end of a line, which is answered, or to the end of the bytes. Assumes nothing.
-use Rattle.std.proofs.Common.{◌∙◌, ap, true}
-use Rattle.lines.specs.Reading.{take_of, form_if}
+use Rattle.std.proofs.Common.{◌∙◌, ap}
+use Rattle.lines.specs.Reading.{form_if}
 use Rattle.stream.proofs.Bytes.{feed_line, feed_none, ends_line}
 use Rattle.stream.proofs.State.feed.Goals as goal
 
@@ -10,8 +10,7 @@ returns-in_default c = feed_none c.args.self.now c.args.bytes.now c.args.at c.sc
 pub returns : goal.returns
 returns c =
     let q = c.scan.new.self in
-    feed_line c.args.self.now c.args.bytes.now c.args.at q c.in-Some.next c.in-Some.ensures c.args.out.now c.answer-len.new.out c.taken-line.result
+    feed_line c.args.self.now c.args.bytes.now c.args.at q c.in-Some.next c.in-Some.ensures c.args.out.now c.answer-len.new.out c.ended-line.result
     c.answer-len.new.self c.answer-len.result c.new-self.result
-    (λ s k.
-    ap form_if (c.taken-line.ensures ∙ (λ i. take_of (c.take.ensures.value i) (c.as_slice.ensures.value i) q.first true)) ∙ ends_line q s k)
+    (λ s k. ap form_if c.ended-line.ensures ∙ ends_line q s k)
     c.answer-len.ensures c.new-self.ensures

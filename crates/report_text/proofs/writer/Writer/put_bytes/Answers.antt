@@ -1,6 +1,6 @@
 use Rattle.report_text.specs.Writer.{held}
 use Rattle.report_text.proofs.Putting.{by_record, part_in}
-use Rattle.std.proofs.Common.{refl, arith}
+use Rattle.std.proofs.Common.{refl}
 use Rattle.report_text.proofs.writer.Writer.put_bytes.Goals as goal
 
 pub returns : goal.returns
