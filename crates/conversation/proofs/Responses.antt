@@ -15,8 +15,9 @@ use Rattle.definition.specs.Whole.{whole}
 use Rattle.definition.specs.Session.{more_of, says_of, Opened}
 use Rattle.definition.specs.declared.Step.{Step}
 use Rattle.definition.specs.declared.Step.TheVariants as step
-use Rattle.lines.specs.Reading.{form_says}
+use Rattle.lines.specs.Reading.{form_says, form_if}
 use Rattle.lines.specs.declared.Form.{Form as Read}
+use Rattle.lines.specs.declared.Line.{Line}
 use Rattle.report.specs.Reading.{report_in}
 use Rattle.editing.specs.Meaning.{state, seen}
 use Rattle.editing.specs.declared.Session.{Session}
@@ -25,6 +26,9 @@ use Rattle.demands.specs.Calls.{Call}
 use Rattle.demands.specs.Demands.{Meets, count}
 use Rattle.report_text.proofs.Writing as writing
 use Rattle.report_text.specs.Writing.{Text, Writes}
+use Rattle.report_text.specs.Writer as writer
+use Rattle.report_text.specs.Writer.{Wrote}
+use Rattle.report_text.specs.declared.writer.Writer.{Writer}
 use Rattle.report_text.proofs.Lengths.{asked_length, page_count_length, malformed_length}
 use Rattle.report_text.specs.Texts.{asked_text, page_count_text, malformed_text, bracketed}
 use Rattle.numerals.specs.Numbers.{count_text}
@@ -36,9 +40,9 @@ use Rattle.answer_text.proofs.Fits.{answer_fits}
 use Rattle.page_text.specs.Page.{lines_in, page_in}
 use Rattle.page.proofs.Laws.{page_length}
 use Rattle.conversation.specs.Conversation.{Conversation, Answer, malformed_at, Answered, answer_text, malformed_line, collected, in_place, opens, calls}
-use Rattle.conversation.specs.Conversation.{said_text, page_answer, takes_shot, answer_to}
+use Rattle.conversation.specs.Conversation.{said_text, page_answer, takes_shot, answer_to, next_line}
 use Rattle.requests.specs.Kept.{held, Keeps}
-use Rattle.conversation.specs.Tracks.{Tracks, response_says, response_text, Responds, Fills}
+use Rattle.conversation.specs.Tracks.{Tracks, response_says, response_text, Responds, Fills, Answers, AnswersUnended}
 use Rattle.conversation.specs.declared.Section.{Section}
 use Rattle.conversation.specs.declared.Section.TheVariants.{Closed, Shots, Priors, Distances}
 use Rattle.requests.specs.declared.Request.{Request}
@@ -168,9 +172,29 @@ pub malformed_fills :
     → Fills out after_call n (line (malformed_text m))
 malformed_fills {out} {after_call} {n} m l w = fills (omega (arith, malformed_length m, length-append (malformed_text m) (10 ∷ []))) w
 
--- the page behind its head
-pub page_head : (n k : ℕ) (t : Text) → n ≡ k → line (bracketed (word_at (place_in word.Page) ∷ count_text n ∷ [])) ++ t ≡ line (page_count_text k) ++ t
-page_head n k t e = ap (λ (s : Text). line s ++ t) (page_word n ∙ ap page_count_text e)
+-- a putting keeps the buffer
+pub same_buffer : (w v : Writer) (text : Text) → Wrote w v text → w.out.ghost_name ≡ v.out.ghost_name
+unfolding writer.held writer.put
+same_buffer w v text e = sym (ap (λ (h : writer.Held). h.buffer) e)
+
+-- a line's answer, once it is written
+pub line_answers :
+    {h k : Held} {l : Option Line} {out after_line : Text} {n : ℕ} {r : Option Response} → length out ≡ 32768
+    → Writes out 0 after_line n (response_text k.session r) → ((t : Conversation) → Tracks h t → Responds k r (answer_to (next_line t) (form_if l)))
+    → Answers h l out after_line k n
+line_answers {h} {k} {l} {out} {after_line} {n} {r} e w d =
+    record { room = writing.same_room w; goes = λ t m. let a = d t m in (a.conversation, answered_fills k _ a.conversation r _ a.says e w) }
+
+pub unended_answers :
+    {h : Held} {out after_line : Text} {n m : ℕ} → length out ≡ 32768
+    → Writes out 0 after_line n (line (bracketed (word_at (place_in word.Malformed) ∷ count_text m ∷ []))) → m ≡ more_of h.lines
+    → AnswersUnended h out after_line n
+unended_answers {h} {out} {after_line} {n} {m} e w d = record {
+  room = writing.same_room w;
+  goes = λ t k.
+      subst (Fills out after_line n) (ap (λ (i : ℕ). line (malformed_text i)) (d ∙ ap more_of k.lines))
+      (malformed_fills m e (writing.as_text w (ap line (malformed_word m))));
+}
 
 -- by the form that is read
 pub by_form : (f g : Option Read) → f ≡ g → (h : Held) (r : Option Response) (u : Conversation) → Responds h r (answer_to u (form_says g))

@@ -10,7 +10,7 @@ ghost use Rattle.editing.specs.Meaning.{state};
 ghost use Rattle.demands.specs.Calls.{Call};
 ghost use Rattle.demands.specs.Demands.{Meets};
 ghost use Rattle.lines.specs.Reading.{form_says, form_if};
-ghost use Rattle.report_text.specs.Writing.{Writes};
+ghost use Rattle.report_text.specs.Writer.{Wrote};
 ghost use Rattle.report_text.specs.Texts.{bracketed};
 ghost use Rattle.answer_text.specs.Answers.{line};
 ghost use Rattle.conversation.specs.Conversation as defined;
@@ -20,7 +20,7 @@ ghost use Rattle.conversation.specs.Tracks.{Tracks, response_text, Responds, Ans
 use definition::{Point, Step};
 use editing::{Answer, Session};
 use lines::{Form, Line};
-use report_text::Writer;
+use report_text::{Text, Writer};
 use requests::Request;
 use words::Word;
 
@@ -146,6 +146,7 @@ impl Conversation {
     }
 
     // Takes a line of the host: how many bytes are written for it.
+    #[tactic(auto, using(crate::proofs::Responses::same_buffer))]
     pub fn answer(&mut self, line: Option<Line>, out: &mut [u8; 32768]) -> usize
         ensures { Answers self.old line out.old out.new self.new result }
     {
@@ -155,59 +156,60 @@ impl Conversation {
             None => None,
         };
         let response = self.respond(form);
-        put_response(out, self.session, response)
+        let mut w = Writer::new(out, 0);
+        put_response(&mut w, self.session, response);
+        w.at()
     }
 
     // The input has ended in a line without its line feed, which is malformed.
+    #[tactic(auto, using(crate::proofs::Responses::same_buffer))]
     pub fn unended(&self, out: &mut [u8; 32768]) -> usize
         ensures { AnswersUnended self.now out.old out.new result }
     {
-        put_count(out, Word::Malformed, number_after(self.lines))
+        let mut w = Writer::new(out, 0);
+        put_count(&mut w, Word::Malformed, number_after(self.lines));
+        w.at()
     }
 }
 
 // ---- writing
 
-fn end_line(out: &mut [u8], at: usize) -> usize
-    ensures { Writes out.old at out.new result (10 ∷ []) }
-{
-    let mut w = Writer::new(out, at);
-    w.put_byte(b'\n');
-    w.at()
-}
-
 // (WORD N), with its line feed.
-fn put_count(out: &mut [u8], word: Word, n: u64) -> usize
-    ensures { Writes out.old 0 out.new result (line (bracketed (word_at (place_in word) ∷ count_text n ∷ []))) }
+#[tactic(auto, using(report_text::proofs::Putting::put_put))]
+fn put_count(w: &mut Writer<'_>, word: Word, n: u64)
+    ensures { Wrote w.old w.new (line (bracketed (word_at (place_in word) ∷ count_text n ∷ []))) }
 {
-    let at = report_text::write(out, 0, &(word, n));
-    end_line(out, at)
+    (word, n).put(w);
+    w.put_byte(b'\n');
 }
 
 // The session's answer, with its line feed.
-fn put_step(out: &mut [u8], session: Session, step: Step) -> usize
-    ensures { Writes out.old 0 out.new result (line (said_text (says_of step) (report_in (state session)))) }
+#[tactic(auto, using(report_text::proofs::Putting::put_put, crate::proofs::Responses::said_same), unfolding(answer_text::specs::Answers::answer_text))]
+fn put_step(w: &mut Writer<'_>, session: Session, step: Step)
+    ensures { Wrote w.old w.new (line (said_text (says_of step) (report_in (state session)))) }
 {
-    let at = answer_text::put_answer(out, 0, Answer { step, session });
-    end_line(out, at)
+    answer_text::write_answer(w, Answer { step, session });
+    w.put_byte(b'\n');
 }
 
 // How many lines the page of the session has, and these.
-fn put_page(out: &mut [u8], session: Session) -> usize
-    ensures { Writes out.old 0 out.new result (page_answer (report_in (state session))) }
+#[tactic(auto, using(report_text::proofs::Putting::put_put, crate::proofs::Responses::page_word))]
+fn put_page(w: &mut Writer<'_>, session: Session)
+    ensures { Wrote w.old w.new (page_answer (report_in (state session))) }
 {
-    let at = put_count(out, Word::Page, page::lines(session) as u64);
-    page::put_page(out, at, session)
+    put_count(w, Word::Page, page::lines(session) as u64);
+    page::write_page(w, session);
 }
 
-fn put_response(out: &mut [u8], session: Session, response: Option<Response>) -> usize
-    ensures { Writes out.old 0 out.new result (response_text session response) }
+#[tactic(auto, using(report_text::proofs::Putting::wrote_nothing, crate::proofs::Responses::asked_word, crate::proofs::Responses::malformed_word))]
+fn put_response(w: &mut Writer<'_>, session: Session, response: Option<Response>)
+    ensures { Wrote w.old w.new (response_text session response) }
 {
     match response {
-        None => 0,
-        Some(Response::Malformed(n)) => put_count(out, Word::Malformed, n),
-        Some(Response::Asked(n)) => put_count(out, Word::Asked, n),
-        Some(Response::Page) => put_page(out, session),
-        Some(Response::Says(step)) => put_step(out, session, step),
+        None => {}
+        Some(Response::Malformed(n)) => put_count(w, Word::Malformed, n),
+        Some(Response::Asked(n)) => put_count(w, Word::Asked, n),
+        Some(Response::Page) => put_page(w, session),
+        Some(Response::Says(step)) => put_step(w, session, step),
     }
 }

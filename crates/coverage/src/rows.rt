@@ -5,7 +5,7 @@ ghost use Rattle.std.specs.Prelude.{◌≡◌, ◌<◌, ◌≤◌, ◌↔◌, []
 use crate::CoverageRow;
 
 // 0 to 8 rows: the first n places, in their order.
-// Kept: an array and a count. A Table is Copy, which arrayvec is not; with the model of `fixed_list` a function that passes one on twice is proved by hand.
+// Kept: an array and a count. A Table was Copy, and its type may not ask more of callers (docs/DECISIONS.md 94): arrayvec is none, and a model leaves proofs to them.
 #[derive(Clone, Copy)]
 pub(crate) struct Rows {
     places: [CoverageRow; 8],

@@ -125,7 +125,6 @@ impl Line {
         Some(Line { words, entries })
     }
 
-    // Kept: `first` and `last` are where a word stands in its line. A method for each place would say `feed` and its clause four times.
     // One word more, with a blank behind it. A line's first word begins with (.
     // Kept: `first` is where the word stands in its line, which the reader of the bytes knows.
     #[tactic(auto, unfolding(crate::specs::Reading::take_of))]
