@@ -1,8 +1,9 @@
 //! Checks the estimator's text and writes the variants that are compiled:
 //! `untouched.rs`, the text as it stands; `recipes.rs`, in which the three
-//! functions without a fixed last bit give way to the recipes (S8); and
+//! functions without a fixed last bit give way to the recipes (S8);
 //! `unjudged.rs`, the recipes with an objective that gives a sum that is not
-//! finite too.  Each ends with `request.rs` and `wrapper.rs`,
+//! finite too; and `rows.rs`, the recipes with an interval by a row of a coverage
+//! table (L2).  Each ends with `request.rs` and `wrapper.rs`,
 //! which need the text's private items.
 
 use std::{env, fs, path::Path};
@@ -15,6 +16,21 @@ include!("replacements.rs");
 const JUDGED: [&str; 2] = [
     "    if objective.is_finite() {\n        Ok(objective)\n    } else {\n",
     "    if true {\n        Ok(objective)\n    } else {\n",
+];
+
+/// An interval's factor and level, and the row's, and the two names, which are then left
+/// only where they are defined.
+const ROWS: [(&str, &str, &str); 2] = [
+    (
+        "let half_width = NORMAL_95_TWO_SIDED_Z * standard_deviation;",
+        "let half_width = crate::coverage::factor() * standard_deviation;",
+        "NORMAL_95_TWO_SIDED_Z",
+    ),
+    (
+        "probability: TRUING_UNCERTAINTY_INTERVAL_LEVEL_V1,",
+        "probability: crate::coverage::level(),",
+        "TRUING_UNCERTAINTY_INTERVAL_LEVEL_V1",
+    ),
 ];
 
 fn main() {
@@ -43,6 +59,15 @@ fn main() {
     assert_eq!(recipes.matches(JUDGED[0]).count(), 1, "occurrences of {}", JUDGED[0]);
     let unjudged = recipes.replace(JUDGED[0], JUDGED[1]);
 
+    let mut rows = recipes.clone();
+    for (from, to, name) in ROWS {
+        assert_eq!(rows.matches(from).count(), 1, "occurrences of {from}");
+        rows = rows.replace(from, to);
+        assert_eq!(rows.matches(name).count(), 1, "occurrences of {name}");
+        assert!(rows.contains(&format!("const {name}: f64 = ")), "{name} is defined");
+    }
+    assert_eq!(rows.lines().count(), text.lines().count());
+
     let read = |name: &str| fs::read_to_string(name).expect(name);
     let wrapper = read("src/request.rs") + &read("src/wrapper.rs");
     let out = env::var("OUT_DIR").expect("OUT_DIR");
@@ -50,11 +75,13 @@ fn main() {
     write("untouched.rs", format!("{text}\n{wrapper}"));
     write("recipes.rs", format!("{recipes}\n{wrapper}"));
     write("unjudged.rs", format!("{unjudged}\n{wrapper}"));
+    write("rows.rs", format!("{rows}\n{wrapper}"));
     write(
         "variants.rs",
         "#[path = \"untouched.rs\"]\n#[allow(dead_code, unreachable_code)]\nmod untouched;\n\
          #[path = \"recipes.rs\"]\n#[allow(dead_code, unreachable_code)]\nmod recipes;\n\
-         #[path = \"unjudged.rs\"]\n#[allow(dead_code, unreachable_code)]\nmod unjudged;\n"
+         #[path = \"unjudged.rs\"]\n#[allow(dead_code, unreachable_code)]\nmod unjudged;\n\
+         #[path = \"rows.rs\"]\n#[allow(dead_code, unreachable_code)]\nmod rows;\n"
             .to_string(),
     );
 }

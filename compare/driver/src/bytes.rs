@@ -1,6 +1,7 @@
 //! `bytes N`: inputs of any bytes, each the whole standard input of a process of its
 //! own, whose whole standard output is compared with the oracle's.
 
+use std::ffi::OsString;
 use std::io::{Read, Write};
 use std::panic::{catch_unwind, AssertUnwindSafe};
 use std::path::{Path, PathBuf};
@@ -10,8 +11,8 @@ use std::sync::Arc;
 use std::time::{Duration, Instant};
 
 use crate::inputs::{self, KINDS};
+use crate::player::PLAIN;
 use crate::rng::Rng;
-use estimator::Variant;
 
 /// How long a process may take over one input.
 const PATIENCE: Duration = Duration::from_secs(20);
@@ -62,6 +63,7 @@ fn write_in_pieces(mut pipe: ChildStdin, input: &[u8], rng: &mut Rng) {
 /// The output of one process for one input.
 fn run(
     path: &Path,
+    arguments: &[OsString],
     input: &Arc<Vec<u8>>,
     due: usize,
     mut rng: Rng,
@@ -69,6 +71,7 @@ fn run(
 ) -> (Vec<u8>, End) {
     let deadline = Instant::now() + limit;
     let mut child = Command::new(path)
+        .args(arguments)
         .stdin(Stdio::piped())
         .stdout(Stdio::piped())
         .spawn()
@@ -114,6 +117,33 @@ fn run(
     }
     let _ = child.wait();
     (output, end)
+}
+
+/// What is wrong with a process's whole output for a whole input, and whether it hangs.
+pub fn play(
+    path: &Path,
+    arguments: &[OsString],
+    input: &Arc<Vec<u8>>,
+    due: &[u8],
+    cuts: Rng,
+) -> (Option<String>, bool) {
+    let (output, end) = run(path, arguments, input, due.len(), cuts, PATIENCE);
+    let hangs = matches!(end, End::Hang);
+    let ended = match end {
+        End::Status(status) if status.success() => String::new(),
+        End::Status(status) => format!(", and ends with {status}"),
+        End::Hang => ", and hangs".to_string(),
+        End::Surplus => ", and does not end".to_string(),
+    };
+    let fault = if output != due {
+        let (line, due, found) = first_difference(due, &output);
+        Some(format!("the answer {line}{ended}\n  due   {due}\n  found {found}"))
+    } else if !ended.is_empty() {
+        Some(format!("the end{ended}"))
+    } else {
+        None
+    };
+    (fault, hangs)
 }
 
 #[derive(Default)]
@@ -215,7 +245,7 @@ impl Counts {
 }
 
 /// The first line in which two outputs differ, its number from 1, and both texts of it.
-fn first_difference(due: &[u8], found: &[u8]) -> (usize, String, String) {
+pub fn first_difference(due: &[u8], found: &[u8]) -> (usize, String, String) {
     let equal = due.iter().zip(found).take_while(|(d, f)| d == f).count();
     let number = due[..equal].iter().filter(|b| **b == b'\n').count() + 1;
     let first = due[..equal].iter().rposition(|b| *b == b'\n').map_or(0, |i| i + 1);
@@ -258,7 +288,7 @@ pub fn compare(path: &Path, count: u64, seed: u64, first: u64) -> bool {
         let own = crate::case_seed(seed, index);
         let (kind, input) = inputs::input(own);
         let (name, bytes) = (KINDS[kind].0, input.len());
-        let answers = || oracle::answers(&input, Variant::Recipes);
+        let answers = || oracle::answers(&input, PLAIN);
         let due = catch_unwind(AssertUnwindSafe(answers)).ok();
         let input = Arc::new(input);
         let fault = match &due {
@@ -266,22 +296,9 @@ pub fn compare(path: &Path, count: u64, seed: u64, first: u64) -> bool {
             Some(due) => {
                 counts.add(kind, &input, due);
                 let cuts = Rng::new(own ^ 0xc075);
-                let (output, end) = run(path, &input, due.len(), cuts, PATIENCE);
-                hangs += matches!(end, End::Hang) as u64;
-                let ended = match end {
-                    End::Status(status) if status.success() => String::new(),
-                    End::Status(status) => format!(", and ends with {status}"),
-                    End::Hang => ", and hangs".to_string(),
-                    End::Surplus => ", and does not end".to_string(),
-                };
-                if output != *due {
-                    let (line, due, found) = first_difference(due, &output);
-                    Some(format!("the answer {line}{ended}\n  due   {due}\n  found {found}"))
-                } else if !ended.is_empty() {
-                    Some(format!("the end{ended}"))
-                } else {
-                    None
-                }
+                let (fault, hung) = play(path, &[], &input, due, cuts);
+                hangs += hung as u64;
+                fault
             }
         };
         let Some(fault) = fault else { continue };
@@ -320,7 +337,7 @@ mod tests {
             let mut rng = Rng::new(seed);
             let size = if seed < 3 { 1 << 20 } else { rng.below(5000) };
             let input: Arc<Vec<u8>> = Arc::new((0..size).map(|_| rng.bits() as u8).collect());
-            let (output, end) = run(Path::new("/bin/cat"), &input, size, rng, SHORT);
+            let (output, end) = run(Path::new("/bin/cat"), &[], &input, size, rng, SHORT);
             assert!(matches!(end, End::Status(status) if status.success()), "{end:?}");
             assert!(output == *input, "{size} bytes");
         }
@@ -330,7 +347,7 @@ mod tests {
     fn ends() {
         let input = Arc::new(vec![b'x'; 1 << 20]);
         let limit = Duration::from_millis(300);
-        let end = |path| run(Path::new(path), &input, 0, Rng::new(1), limit).1;
+        let end = |path| run(Path::new(path), &[], &input, 0, Rng::new(1), limit).1;
         assert!(matches!(end("/bin/false"), End::Status(status) if !status.success()));
         assert!(matches!(end("/bin/true"), End::Status(status) if status.success()));
         // One that reads nothing and writes without end.

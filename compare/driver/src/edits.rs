@@ -4,23 +4,26 @@
 use std::collections::VecDeque;
 
 use crate::case::{self, answering, Case};
-use crate::player::Script;
+use crate::player::{Script, PLAIN};
 use crate::rng::Rng;
 use crate::write;
-use estimator::{Opening, Requested, Variant, LIMIT};
+use estimator::{Opening, Requested, LIMIT};
 use oracle::form::Edit;
-use oracle::{page, Host};
+use oracle::{page, Host, Text};
 
 /// What a session opened with this list ends in: its line and its page.
 pub fn fresh(case: &Case, list: &[Requested]) -> (String, String) {
+    fresh_by(PLAIN, case, list)
+}
+
+fn fresh_by(text: Text<'_>, case: &Case, list: &[Requested]) -> (String, String) {
     let opening = Opening { distances: list.to_vec(), ..case.opening.clone() };
-    let declined =
-        |(number, position)| (format!("(declined {number} {position})"), page::answer(None));
+    let declined = |refusal| (oracle::declined(refusal), page::answer(None));
     if let Some(refusal) = estimator::opening_refusal(&opening) {
         return declined(refusal);
     }
     let mut answer = answering(&opening, &case.solver);
-    match estimator::run(Variant::Recipes, &opening, &mut answer) {
+    match text.run(&opening, &mut answer) {
         Ok(report) => (report.line, page::answer(Some(&report.sheet))),
         Err(refusal) => declined(refusal),
     }
@@ -35,6 +38,7 @@ enum Phase {
 }
 
 struct Bookkeeper<'a> {
+    text: Text<'a>,
     case: &'a Case,
     rng: Rng,
     queue: VecDeque<Vec<u8>>,
@@ -67,8 +71,9 @@ enum Call {
 }
 
 /// Plays one case; gives the conversation, what was wrong, and how many edits ended.
-pub fn play(case: &Case, line: &mut u64) -> (Script, Vec<String>, u64) {
+pub fn play(text: Text<'_>, case: &Case, line: &mut u64) -> (Script, Vec<String>, u64) {
     let mut keeper = Bookkeeper {
+        text,
         case,
         rng: Rng::new(case.seed ^ 0xb00c),
         queue: write::request(&case.opening).into_iter().map(String::into_bytes).collect(),
@@ -86,7 +91,7 @@ pub fn play(case: &Case, line: &mut u64) -> (Script, Vec<String>, u64) {
         closed: false,
     };
     keeper.calls_left = keeper.rng.between(1, 8);
-    oracle::serve(&mut keeper, Variant::Recipes, line);
+    oracle::serve(&mut keeper, text, line);
     (keeper.script, keeper.faults, keeper.ended)
 }
 
@@ -125,7 +130,7 @@ impl Host for Bookkeeper<'_> {
                 self.phase = Phase::Run(wanted)
             }
             (Call::Other | Call::Reply, Phase::Idle | Phase::Run(_), None) => {
-                let (due, page) = fresh(self.case, &self.book);
+                let (due, page) = fresh_by(self.text, self.case, &self.book);
                 self.check(&due, text);
                 self.standing = due.starts_with("(report");
                 self.page = page;
@@ -138,7 +143,7 @@ impl Host for Bookkeeper<'_> {
                 self.phase = Phase::Edit(wanted, edit, list)
             }
             (Call::Edit(_, list), _, None) | (Call::Reply, Phase::Edit(_, _, list), None) => {
-                let (due, page) = fresh(self.case, &list);
+                let (due, page) = fresh_by(self.text, self.case, &list);
                 self.check(&due, text);
                 if due.starts_with("(report") {
                     self.book = list;

@@ -2,15 +2,16 @@
 //! rarer ways through the text were taken.
 
 use crate::tally::WARNINGS;
-use estimator::Sheet;
+use estimator::{hex, Row, Sheet};
 
-enum Tree {
+#[derive(Clone)]
+pub enum Tree {
     Word(String),
     List(Vec<Tree>),
 }
 
 impl Tree {
-    fn read(line: &str) -> Tree {
+    pub fn read(line: &str) -> Tree {
         let mut open = vec![Vec::new()];
         for part in line.replace('(', " ( ").replace(')', " ) ").split_whitespace() {
             match part {
@@ -25,39 +26,57 @@ impl Tree {
         open.pop().and_then(|mut whole| whole.pop()).expect("brackets")
     }
 
-    fn at(&self, index: usize) -> &Tree {
+    pub fn at(&self, index: usize) -> &Tree {
         match self {
             Tree::List(parts) => &parts[index],
             Tree::Word(_) => panic!("a word has no parts"),
         }
     }
 
-    fn parts(&self) -> &[Tree] {
+    pub fn parts(&self) -> &[Tree] {
         match self {
             Tree::List(parts) => parts,
             Tree::Word(_) => &[],
         }
     }
 
-    fn word(&self) -> &str {
+    pub fn word(&self) -> &str {
         match self {
             Tree::Word(word) => word,
             Tree::List(_) => "",
         }
     }
 
-    fn double(&self) -> f64 {
+    pub fn double(&self) -> f64 {
         f64::from_bits(u64::from_str_radix(self.word(), 16).expect("a double"))
     }
 
-    /// A value, and the ends of its interval if there is one.
+    /// An interval's records, one for each row of the coverage table (L2), none if it is
+    /// absent.
+    pub fn rows(&self) -> &[Tree] {
+        match self.parts() {
+            [Tree::Word(_), ..] => std::slice::from_ref(self),
+            rows => rows,
+        }
+    }
+
+    /// A value, and the ends of its interval by the last row, if there is one.
     fn with_ends(&self, interval: &Tree) -> [Option<f64>; 3] {
-        let end = |i: usize| interval.parts().get(i).map(Tree::double);
+        let end = |i: usize| interval.rows().last().map(|row| row.at(i).double());
         [Some(self.double()), end(2), end(3)]
     }
 
+    /// A report's intervals: the two of the parameters, if there are, and two for each band.
+    pub fn intervals(&self) -> Vec<&Tree> {
+        let approximation = self.at(10);
+        let available = approximation.at(0).word() == "Available";
+        let parameters = available.then(|| [approximation.at(2), approximation.at(3)]);
+        let bands = self.at(11).parts().iter().flat_map(|band| [band.at(2), band.at(3)]);
+        parameters.into_iter().flatten().chain(bands).collect()
+    }
+
     /// What the page of this report shows.
-    fn sheet(&self) -> Sheet {
+    pub fn sheet(&self) -> Sheet {
         let approximation = self.at(10);
         let none = Tree::Word("none".to_string());
         let available = approximation.at(0).word() == "Available";
@@ -148,11 +167,36 @@ impl Facts {
             count.word() == "4000000000000000",
             diagnostics.at(4).word() != "none" && diagnostics.at(5).word() == "none",
             available && bands.iter().any(|b| b.at(2).word() == "none"),
-            bands.iter().any(|b| b.at(2).word() != "none" && b.at(2).at(1).double() == 0.0),
+            bands.iter().any(|b| b.at(2).rows().iter().any(|row| row.at(1).double() == 0.0)),
             nan(diagnostics.at(6)),
         ];
         for (count, taken) in self.ways.iter_mut().zip(taken) {
             *count += taken as u64;
+        }
+    }
+
+    /// Holds each interval of a report to the table's rows: the half width is the row's
+    /// factor times the deviation, and the level comes last.
+    pub fn rows(&mut self, line: &str, table: &[Row]) {
+        let report = Tree::read(line);
+        let right = |interval: &&Tree| {
+            let rows = interval.rows();
+            let one = |(row, due): (&Tree, &Row)| {
+                let (estimate, deviation) = (row.at(0).double(), row.at(1).double());
+                let half = due.factor * deviation;
+                let due = [estimate, deviation, estimate - half, estimate + half, due.level];
+                row.parts().iter().map(Tree::word).eq(due.map(hex).iter().map(String::as_str))
+            };
+            let same = rows
+                .windows(2)
+                .all(|pair| [0, 1].iter().all(|i| pair[0].at(*i).word() == pair[1].at(*i).word()));
+            let whole = rows.len() == table.len() && same && rows.iter().zip(table).all(one);
+            // A list stands only where there are several rows.
+            let listed = matches!(interval.parts(), [Tree::List(_), ..]) == (table.len() > 1);
+            interval.word() == "none" || whole && listed
+        };
+        if !report.intervals().iter().all(right) && self.broken.len() < 20 {
+            self.broken.push(format!("intervals are by the table's rows {table:?}: {line}"));
         }
     }
 
@@ -172,6 +216,10 @@ impl Facts {
         for broken in &self.broken {
             println!("not so: {broken}");
         }
+        self.held()
+    }
+
+    pub fn held(&self) -> bool {
         self.broken.is_empty()
     }
 }

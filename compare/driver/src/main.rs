@@ -3,6 +3,7 @@
 
 mod bytes;
 mod case;
+mod coverage;
 mod edits;
 mod facts;
 mod inputs;
@@ -12,6 +13,8 @@ mod program;
 mod rng;
 mod sample;
 mod solver;
+mod stream;
+mod tables;
 mod tally;
 mod untouched;
 mod write;
@@ -55,7 +58,16 @@ fn path(arguments: &Arguments) -> PathBuf {
 }
 
 fn program(arguments: &Arguments) -> Program {
-    Program::new(path(arguments))
+    Program::new(path(arguments), Vec::new())
+}
+
+/// The program that writes a line for each line; with this word it is the oracle.
+fn lines(arguments: &Arguments, word: &str) -> Command {
+    let mut command = Command::new(path(arguments));
+    if arguments.program.is_none() {
+        command.arg(word);
+    }
+    command
 }
 
 fn number(word: Option<&String>, default: u64) -> Result<u64, String> {
@@ -84,18 +96,25 @@ fn main() -> ExitCode {
                 Ok(bytes::compare(&path(&arguments), count()?, seed()?, first))
             }
             Some("edits") => Ok(edited(&arguments, count()?, seed()?)),
-            Some("numbers") if words.get(1).is_some_and(|w| w == "list") => {
-                let directory = words.get(2).ok_or("numbers list wants a directory")?;
-                let written = numbers::write(Path::new(directory));
+            Some(mode @ ("numbers" | "coverage" | "tables"))
+                if words.get(1).is_some_and(|w| w == "list") =>
+            {
+                let directory = words.get(2).ok_or(format!("{mode} list wants a directory"))?;
+                let write = match mode {
+                    "numbers" => numbers::write,
+                    "coverage" => coverage::write,
+                    _ => tables::write,
+                };
+                let written = write(Path::new(directory));
                 written.map(|()| true).map_err(|e| format!("{directory}: {e}"))
             }
             Some("numbers") => {
-                let mut command = Command::new(path(&arguments));
-                if arguments.program.is_none() {
-                    command.arg("--numbers");
-                }
-                Ok(numbers::compare(command, count()?, seed()?))
+                Ok(numbers::compare(lines(&arguments, "--numbers"), count()?, seed()?))
             }
+            Some("coverage") => {
+                Ok(coverage::compare(lines(&arguments, "--coverage-list"), count()?, seed()?))
+            }
+            Some("tables") => Ok(tables::compare(&path(&arguments), count()?, seed()?)),
             Some(other) => Err(format!("unknown mode {other}")),
             None if arguments.untouched => {
                 untouched::table(count()?, seed()?);
@@ -183,7 +202,7 @@ fn edited(arguments: &Arguments, count: u64, seed: u64) -> bool {
             line = 0;
         }
         let case = edits::consistent(case_seed(seed, index));
-        let (script, mut faults, edits) = edits::play(&case, &mut line);
+        let (script, mut faults, edits) = edits::play(player::PLAIN, &case, &mut line);
         ended += edits;
         tally.add(&script);
         if let Err(difference) = program.play(&script, index % 8 == 0) {

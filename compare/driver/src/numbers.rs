@@ -1,20 +1,13 @@
 //! `numbers N`: doubles of every kind, each a line of its digits, to a program that
 //! writes its 14 columns of a page; and a fixed list of them.
 
-use std::io::{self, BufWriter, Read, Write};
+use std::io::{self, BufWriter, Write};
 use std::path::Path;
-use std::process::{Child, Command, Stdio};
-use std::sync::mpsc::{self, Receiver, RecvTimeoutError};
-use std::time::{Duration, Instant};
+use std::process::Command;
 
 use crate::rng::Rng;
+use crate::stream::{self, Lines};
 use oracle::page;
-
-/// How long the next line, and the end, may take.
-const PATIENCE: Duration = Duration::from_secs(20);
-
-/// A line that has not ended after so many bytes is given up.
-const LONGEST: usize = 4096;
 
 /// How many doubles the fixed list has.
 const LISTED: usize = 2000;
@@ -218,126 +211,44 @@ impl Counts {
     }
 }
 
-/// A program's output, line by line.
-struct Lines {
-    chunks: Receiver<Vec<u8>>,
-    held: Vec<u8>,
-    at: usize,
-}
-
-const END: &str = "the end";
-
-impl Lines {
-    /// The next line without its line feed, or what came in its place.
-    fn next(&mut self) -> Result<&[u8], &'static str> {
-        let feed = loop {
-            let rest = &self.held[self.at..];
-            if let Some(feed) = rest.iter().position(|b| *b == b'\n') {
-                break self.at + feed;
-            }
-            if rest.len() > LONGEST {
-                return Err("a line without an end");
-            }
-            match self.chunks.recv_timeout(PATIENCE) {
-                Ok(chunk) => {
-                    self.held.drain(..self.at);
-                    self.at = 0;
-                    self.held.extend(chunk);
-                }
-                Err(RecvTimeoutError::Disconnected) if rest.is_empty() => return Err(END),
-                Err(RecvTimeoutError::Disconnected) => return Err("an unended last line"),
-                Err(RecvTimeoutError::Timeout) => return Err("nothing"),
-            }
-        };
-        let first = std::mem::replace(&mut self.at, feed + 1);
-        Ok(&self.held[first..feed])
-    }
-}
-
 /// Judges a program's lines; gives the counts and how many lines differ.
 fn judge(lines: &mut Lines, count: u64, seed: u64) -> (Counts, u64) {
     let mut rng = Rng::new(seed);
-    let (mut counts, mut differ) = (Counts::default(), 0);
-    for index in 0..count {
+    let mut counts = Counts::default();
+    let made = || {
         let bits = pattern(&mut rng);
         let due = page::field(Some(f64::from_bits(bits)));
         counts.add(bits, &due);
-        match lines.next() {
-            Ok(found) if found == due.as_bytes() => {}
-            Ok(found) => {
-                differ += 1;
-                if differ <= 10 {
-                    println!("number {index} of seed {seed}, {bits:016x}, differs");
-                    println!("  due   |{due}|\n  found |{}|", found.escape_ascii());
-                }
-            }
-            Err(instead) => {
-                println!("number {index} of seed {seed}, {bits:016x}: {instead} in its place");
-                differ += count - index;
-                break;
-            }
-        }
-    }
+        (bits, due)
+    };
+    let named = |index, bits: &u64| format!("number {index} of seed {seed}, {bits:016x}");
+    let differ = lines.judge(count, made, named);
     (counts, differ)
-}
-
-/// Waits for a process that has nothing more to say; says whether its status is 0.
-fn ends_well(child: &mut Child) -> bool {
-    let deadline = Instant::now() + PATIENCE;
-    loop {
-        match child.try_wait() {
-            Ok(Some(status)) => return status.success(),
-            Ok(None) if Instant::now() < deadline => std::thread::sleep(Duration::from_millis(1)),
-            _ => return false,
-        }
-    }
 }
 
 /// Plays doubles of a seed to a program; says whether nothing differs and every kind
 /// occurred.  The writer and the judge make the same ones, so that none are kept.
-pub fn compare(mut command: Command, count: u64, seed: u64) -> bool {
-    let mut child = command
-        .stdin(Stdio::piped())
-        .stdout(Stdio::piped())
-        .spawn()
-        .unwrap_or_else(|e| panic!("{command:?}: {e}"));
-    let mut pipe = BufWriter::with_capacity(1 << 16, child.stdin.take().expect("a pipe"));
-    let writer = std::thread::spawn(move || {
+pub fn compare(command: Command, count: u64, seed: u64) -> bool {
+    let write = move |pipe: &mut dyn Write| {
         let mut rng = Rng::new(seed);
-        // A process that reads no more is met in its output.
-        (0..count).try_for_each(|_| writeln!(pipe, "{:016x}", pattern(&mut rng)))?;
-        pipe.flush()
-    });
-    let mut reader = child.stdout.take().expect("a pipe");
-    let (sender, chunks) = mpsc::sync_channel(16);
-    std::thread::spawn(move || {
-        let mut chunk = vec![0; 1 << 16];
-        while let Ok(read @ 1..) = reader.read(&mut chunk) {
-            if sender.send(chunk[..read].to_vec()).is_err() {
-                return;
-            }
-        }
-    });
-    let mut lines = Lines { chunks, held: Vec::new(), at: 0 };
-    let (counts, differ) = judge(&mut lines, count, seed);
-    let silent = differ > 0 || lines.next() == Err(END);
-    let ended = silent && differ == 0 && ends_well(&mut child);
-    if !ended {
-        let _ = child.kill();
-    }
-    let _ = child.wait();
-    let _: Result<io::Result<()>, _> = writer.join();
+        (0..count).try_for_each(|_| writeln!(pipe, "{:016x}", pattern(&mut rng)))
+    };
+    let mut counts = Counts::default();
+    let judged = |lines: &mut Lines| {
+        let differ;
+        (counts, differ) = judge(lines, count, seed);
+        differ
+    };
+    let (differ, ended) = stream::play(command, write, judged);
     let all = counts.print();
-    if differ == 0 {
-        println!("end of input: {}", if ended { "equal" } else { "differs" });
-    }
-    println!("{} equal, {differ} differ", count - differ);
-    all && ended && differ == 0
+    stream::conclude(count, differ, ended) && all
 }
 
 #[cfg(test)]
 mod tests {
     use super::*;
+    use crate::stream::END;
+    use std::sync::mpsc;
 
     fn field(x: f64) -> String {
         page::field(Some(x))
@@ -495,7 +406,7 @@ mod tests {
     fn said(output: Vec<u8>, pieces: usize) -> Lines {
         let (sender, chunks) = mpsc::channel();
         output.chunks(pieces).for_each(|piece| sender.send(piece.to_vec()).expect("a reader"));
-        Lines { chunks, held: Vec::new(), at: 0 }
+        Lines::new(chunks)
     }
 
     fn output(count: u64, seed: u64, rule: fn(f64) -> String) -> Vec<u8> {

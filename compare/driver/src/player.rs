@@ -7,7 +7,10 @@ use crate::rng::Rng;
 use crate::write;
 use estimator::{hex, Requested, Variant};
 use oracle::form::Edit;
-use oracle::Host;
+use oracle::{Host, Text};
+
+/// What the cases are played to where no coverage table is named.
+pub const PLAIN: Text<'static> = Text::Alone(Variant::Recipes);
 
 /// A conversation: the host's lines, and the answer to each that has one.  A page's
 /// answer has several lines.
@@ -62,6 +65,10 @@ struct Player {
 
 /// Plays a case; `line` goes on counting the lines.
 pub fn play(case: &Case, line: &mut u64) -> Script {
+    play_to(PLAIN, case, line)
+}
+
+pub fn play_to(text: Text<'_>, case: &Case, line: &mut u64) -> Script {
     let mut player = Player {
         rng: Rng::new(case.seed ^ 0x5eed),
         queue: VecDeque::new(),
@@ -85,12 +92,16 @@ pub fn play(case: &Case, line: &mut u64) -> Script {
         }
         player.queue.push_back(text.into_bytes());
     }
-    oracle::serve(&mut player, Variant::Recipes, line);
+    oracle::serve(&mut player, text, line);
     player.script
 }
 
 /// The recipes' answers to lines that are given beforehand.
 pub fn recite(lines: &[Vec<u8>], line: &mut u64) -> Vec<Option<String>> {
+    recite_to(PLAIN, lines, line)
+}
+
+pub fn recite_to(text: Text<'_>, lines: &[Vec<u8>], line: &mut u64) -> Vec<Option<String>> {
     struct Reciter<'a> {
         lines: std::slice::Iter<'a, Vec<u8>>,
         answers: Vec<Option<String>>,
@@ -106,7 +117,7 @@ pub fn recite(lines: &[Vec<u8>], line: &mut u64) -> Vec<Option<String>> {
         }
     }
     let mut reciter = Reciter { lines: lines.iter(), answers: Vec::new() };
-    oracle::serve(&mut reciter, Variant::Recipes, line);
+    oracle::serve(&mut reciter, text, line);
     reciter.answers
 }
 

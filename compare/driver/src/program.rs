@@ -1,5 +1,6 @@
 //! A program under test: one long-lived process over two pipes.
 
+use std::ffi::OsString;
 use std::io::{BufRead, BufReader, Write};
 use std::path::PathBuf;
 use std::process::{Child, ChildStdin, Command, Stdio};
@@ -10,6 +11,7 @@ use crate::player::Script;
 
 pub struct Program {
     path: PathBuf,
+    arguments: Vec<OsString>,
     running: Option<Running>,
     pub patience: Duration,
 }
@@ -31,8 +33,8 @@ pub struct Difference {
 }
 
 impl Program {
-    pub fn new(path: PathBuf) -> Self {
-        Program { path, running: None, patience: Duration::from_secs(20) }
+    pub fn new(path: PathBuf, arguments: Vec<OsString>) -> Self {
+        Program { path, arguments, running: None, patience: Duration::from_secs(20) }
     }
 
     /// Whether the next line is the first that the process reads.
@@ -43,6 +45,7 @@ impl Program {
     fn start(&mut self) -> &mut Running {
         self.running.get_or_insert_with(|| {
             let mut child = Command::new(&self.path)
+                .args(&self.arguments)
                 .stdin(Stdio::piped())
                 .stdout(Stdio::piped())
                 .spawn()

@@ -13,6 +13,7 @@ use crate::tally::Tally;
 use crate::write;
 use estimator::{Opening, Requested, LIMIT};
 use oracle::form::Edit;
+use oracle::Text;
 
 /// About how many bytes the two files may have together, the long lists and all pages
 /// left out.
@@ -23,7 +24,7 @@ fn solver(base: Base) -> Solver {
     Solver { seed: 1, base, noise: 0.0, gap: Gap::Nothing, slip: None }
 }
 
-fn case(entered: [f64; 2], shots: &[[f64; 3]], base: Base) -> Case {
+pub fn case(entered: [f64; 2], shots: &[[f64; 3]], base: Base) -> Case {
     let opening = Opening { entered, shots: shots.to_vec(), ..Opening::default() };
     let solver = solver(base);
     Case { seed: 1, opening, solver, noise: 0.0, edits: 0, plan: Vec::new(), pages: 0.0 }
@@ -484,7 +485,7 @@ fn openings() -> Vec<Case> {
 }
 
 /// The bytes of a conversation, pages left out.
-fn size(script: &Script) -> usize {
+pub fn size(script: &Script) -> usize {
     let lines = script.lines.iter().filter(|line| *line != b"(page)");
     let answers = script.answers.iter().flatten().filter(|a| !a.starts_with("(page "));
     lines.map(|l| l.len() + 1).sum::<usize>() + answers.map(|a| a.len() + 1).sum::<usize>()
@@ -493,11 +494,20 @@ fn size(script: &Script) -> usize {
 /// A conversation with `(page)` after some of the lines that get a report or a refusal,
 /// told by their places among these; `line` goes on counting the lines.
 fn paged(script: &Script, line: &mut u64, after: impl Fn(usize) -> bool) -> Script {
+    paged_to(player::PLAIN, script, line, after)
+}
+
+pub fn paged_to(
+    text: Text<'_>,
+    script: &Script,
+    line: &mut u64,
+    after: impl Fn(usize) -> bool,
+) -> Script {
     let kept = script.lines.len() - script.closing;
     let (mut lines, mut closing, mut ends) = (Vec::new(), 0, 0);
-    for (i, (text, answer)) in script.lines.iter().zip(&script.answers).enumerate() {
+    for (i, (said, answer)) in script.lines.iter().zip(&script.answers).enumerate() {
         let first = lines.len();
-        lines.push(text.clone());
+        lines.push(said.clone());
         let answer = answer.as_deref().unwrap_or_default();
         if answer.starts_with("(report ") || answer.starts_with("(declined ") {
             lines.extend(after(ends).then(|| b"(page)".to_vec()));
@@ -505,7 +515,7 @@ fn paged(script: &Script, line: &mut u64, after: impl Fn(usize) -> bool) -> Scri
         }
         closing += if i < kept { 0 } else { lines.len() - first };
     }
-    let answers = player::recite(&lines, line);
+    let answers = player::recite_to(text, &lines, line);
     Script { lines, answers, closing }
 }
 

@@ -2,6 +2,7 @@
 
 use crate::facts::Facts;
 use crate::player::Script;
+use estimator::Row;
 
 pub const CRITERIA: [&str; 3] = ["ScaledGradient", "ObjectiveMesh", "none"];
 pub const FAILURES: [&str; 4] = [
@@ -161,5 +162,16 @@ impl Tally {
             row(format!("page's numbers: {name}"), *count);
         }
         all & self.facts.print()
+    }
+
+    /// Holds the intervals of a conversation's reports to the rows of its table (L2).
+    pub fn rows(&mut self, script: &Script, table: &[Row]) {
+        let reports = script.answers.iter().flatten().filter(|a| a.starts_with("(report "));
+        reports.for_each(|report| self.facts.rows(report, table));
+    }
+
+    /// Whether all of the scope's claims held.
+    pub fn held(&self) -> bool {
+        self.facts.held()
     }
 }

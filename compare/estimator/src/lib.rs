@@ -2,9 +2,11 @@
 //!
 //! `run` is the run of docs/SCOPE.md (S20): it calls the text's
 //! `run_with_model` and gives its report, or the number and position of its
-//! refusal.  `opening_refusal` is the scope's judgement of an opening.
+//! refusal.  `run_under` is the same under a coverage table (L2).
+//! `opening_refusal` is the scope's judgement of an opening.
 
 mod atmosphere;
+mod coverage;
 mod print;
 mod recipe;
 mod truing;
@@ -14,6 +16,7 @@ include!(concat!(env!("OUT_DIR"), "/variants.rs"));
 use std::panic::Location;
 use std::sync::OnceLock;
 
+pub use coverage::Row;
 pub use print::hex;
 pub use truing::DropUnit;
 
@@ -135,6 +138,57 @@ pub fn run(
         Variant::Untouched => untouched::run(opening, &model),
         Variant::Recipes => recipes::run(opening, &model),
     };
+    outcome.map_err(|message| watch.refusal(&message))
+}
+
+/// Runs the text, with the recipes, under a coverage table (L2): once for each row, on the
+/// replies to the first.  Each interval comes from every row's report; the crossing warning
+/// is the last row's; all else must be the same for each, the questions too.
+pub fn run_under(
+    table: &[Row],
+    opening: &Opening,
+    solver: &mut dyn FnMut(Place, f64, f64, usize) -> Reply,
+) -> Result<Report, Refusal> {
+    let (first, others) = table.split_first().expect("a table has a row");
+    let mut record: Vec<((Place, [u64; 2]), Reply)> = Vec::new();
+    // One not-a-number equals another.
+    let question = |place: Place, mv: f64, bc: f64| {
+        (place, [mv, bc].map(|x| if x.is_nan() { f64::NAN.to_bits() } else { x.to_bits() }))
+    };
+    let mut reports = vec![row_report(*first, opening, &mut |place, mv, bc, wanted| {
+        let reply = solver(place, mv, bc, wanted);
+        record.push((question(place, mv, bc), reply.clone()));
+        reply
+    })];
+    for row in others {
+        let mut recorded = record.iter();
+        reports.push(row_report(*row, opening, &mut |place, mv, bc, _| {
+            let (due, reply) = recorded.next().expect("no question more");
+            assert_eq!(question(place, mv, bc), *due, "the same questions");
+            reply.clone()
+        }));
+        assert!(recorded.next().is_none(), "no question less");
+    }
+    let same = |outcome: &Result<_, Refusal>| outcome.as_ref().map(rows::rowless).map_err(|r| *r);
+    let due = same(&reports[0]);
+    reports.iter().for_each(|report| assert_eq!(same(report), due, "the same by every row"));
+    let reports: Result<Vec<_>, Refusal> = reports.into_iter().collect();
+    reports.map(|reports| rows::print_report(&reports))
+}
+
+fn row_report(
+    row: Row,
+    opening: &Opening,
+    solver: &mut dyn FnMut(Place, f64, f64, usize) -> Reply,
+) -> Result<rows::UncertaintyTruingReportV1, Refusal> {
+    let mut watch = Watch::default();
+    let mut ask = |place, mv, bc, wanted| {
+        let reply = solver(place, mv, bc, wanted);
+        watch.note(place, &reply);
+        reply
+    };
+    let model = truing::TruingForwardModel::new(&mut ask);
+    let outcome = coverage::under(row, || rows::report(opening, &model));
     outcome.map_err(|message| watch.refusal(&message))
 }
 

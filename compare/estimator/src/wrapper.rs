@@ -12,9 +12,39 @@ pub(crate) fn run(
     opening: &crate::Opening,
     model: &TruingForwardModel<'_>,
 ) -> Result<crate::Report, String> {
-    run_with_model(&request_of(opening), model)
-        .map(|report| print_report(&report))
-        .map_err(message_of)
+    report(opening, model).map(|report| print_report(&[report]))
+}
+
+/// The text's own report.
+pub(crate) fn report(
+    opening: &crate::Opening,
+    model: &TruingForwardModel<'_>,
+) -> Result<UncertaintyTruingReportV1, String> {
+    run_with_model(&request_of(opening), model).map_err(message_of)
+}
+
+/// What may not go by the row of a coverage table (L2): all but the ends and the levels of
+/// the intervals and whether one crosses the bounds.
+pub(crate) fn rowless(report: &UncertaintyTruingReportV1) -> String {
+    let blank = |i: GaussianIntervalV1| GaussianIntervalV1 {
+        lower: 0.0,
+        upper: 0.0,
+        probability: 0.0,
+        ..i
+    };
+    let mut report = report.clone();
+    if let TruingApproximationV1::Available(a) = &mut report.approximation {
+        a.muzzle_velocity_interval_95 = blank(a.muzzle_velocity_interval_95);
+        a.ballistic_coefficient_interval_95 = blank(a.ballistic_coefficient_interval_95);
+    }
+    for band in &mut report.predictive_bands {
+        band.latent_interval_95 = band.latent_interval_95.map(blank);
+        band.future_observation_interval_95 = band.future_observation_interval_95.map(blank);
+    }
+    let crosses = TruingUncertaintyWarningCodeV1::IntervalCrossesFitBounds;
+    report.warnings.retain(|warning| warning.code != crosses);
+    // As text, so that one not-a-number equals another and the zeros differ.
+    format!("{report:?}")
 }
 
 fn message_of(error: UncertaintyTruingErrorV1) -> String {
@@ -25,7 +55,12 @@ fn message_of(error: UncertaintyTruingErrorV1) -> String {
     }
 }
 
-fn print_report(report: &UncertaintyTruingReportV1) -> crate::Report {
+/// A report by the rows of a table: the intervals of each, all else of the last.
+pub(crate) fn print_report(rows: &[UncertaintyTruingReportV1]) -> crate::Report {
+    let report = rows.last().expect("a row");
+    let each = |of: &dyn Fn(&UncertaintyTruingReportV1) -> Option<GaussianIntervalV1>| {
+        rows.iter().map(of).collect::<Vec<_>>()
+    };
     let mut out = crate::print::Printer::new();
     out.word("schema_version", report.schema_version);
     out.double("map_muzzle_velocity_fps", report.map_muzzle_velocity_fps);
@@ -77,12 +112,13 @@ fn print_report(report: &UncertaintyTruingReportV1) -> crate::Report {
                 out.double("covariance", a.covariance.mv_bc_covariance_fps);
                 out.double("covariance", a.covariance.bc_variance);
             });
-            print_interval(out, "muzzle_velocity_interval_95", a.muzzle_velocity_interval_95);
-            print_interval(
-                out,
-                "ballistic_coefficient_interval_95",
-                a.ballistic_coefficient_interval_95,
-            );
+            for (i, name) in
+                ["muzzle_velocity_interval_95", "ballistic_coefficient_interval_95"]
+                    .into_iter()
+                    .enumerate()
+            {
+                print_intervals(out, name, &each(&|report| parameter_intervals(report)[i]));
+            }
             out.double("mv_bc_correlation", a.mv_bc_correlation);
             out.double(
                 "scaled_information_condition_number",
@@ -95,18 +131,15 @@ fn print_report(report: &UncertaintyTruingReportV1) -> crate::Report {
         }
     });
     out.group(|out| {
-        for band in &report.predictive_bands {
+        for (i, band) in report.predictive_bands.iter().enumerate() {
             out.group(|out| {
                 out.double("bands.range_yd", band.range_yd);
                 out.double("bands.predicted_drop", band.predicted_drop);
-                out.present("bands.latent_interval_95", band.latent_interval_95, |out, i| {
-                    print_fields(out, "bands.latent_interval_95", i)
-                });
-                out.present(
-                    "bands.future_observation_interval_95",
-                    band.future_observation_interval_95,
-                    |out, i| print_fields(out, "bands.future_observation_interval_95", i),
-                );
+                let latent = each(&|report| report.predictive_bands[i].latent_interval_95);
+                print_intervals(out, "bands.latent_interval_95", &latent);
+                let future =
+                    each(&|report| report.predictive_bands[i].future_observation_interval_95);
+                print_intervals(out, "bands.future_observation_interval_95", &future);
             });
         }
     });
@@ -124,12 +157,7 @@ fn sheet_of(report: &UncertaintyTruingReportV1) -> crate::Sheet {
     let with_ends = |value: f64, interval: Option<GaussianIntervalV1>| {
         [Some(value), interval.map(|i| i.lower), interval.map(|i| i.upper)]
     };
-    let (speed, coefficient) = match &report.approximation {
-        TruingApproximationV1::Available(a) => {
-            (Some(a.muzzle_velocity_interval_95), Some(a.ballistic_coefficient_interval_95))
-        }
-        TruingApproximationV1::Unavailable(_) => (None, None),
-    };
+    let [speed, coefficient] = parameter_intervals(report);
     let observations = report.observations.iter();
     let bands = report.predictive_bands.iter();
     let warnings = report.warnings.iter();
@@ -165,12 +193,34 @@ fn print_observations(
     });
 }
 
-fn print_interval(
+/// The speed's and the coefficient's interval.
+fn parameter_intervals(report: &UncertaintyTruingReportV1) -> [Option<GaussianIntervalV1>; 2] {
+    match &report.approximation {
+        TruingApproximationV1::Available(a) => {
+            [Some(a.muzzle_velocity_interval_95), Some(a.ballistic_coefficient_interval_95)]
+        }
+        TruingApproximationV1::Unavailable(_) => [None, None],
+    }
+}
+
+/// An interval by the rows of a table: one row's is a record, several make a list of
+/// records, and an absent one is a single word.
+fn print_intervals(
     out: &mut crate::print::Printer,
     name: &'static str,
-    interval: GaussianIntervalV1,
+    rows: &[Option<GaussianIntervalV1>],
 ) {
-    out.group(|out| print_fields(out, name, interval));
+    let present: Vec<GaussianIntervalV1> = rows.iter().copied().flatten().collect();
+    assert!(present.is_empty() || present.len() == rows.len(), "present by every row or by none");
+    match present.as_slice() {
+        [] => out.word(name, "none"),
+        [one] => out.group(|out| print_fields(out, name, *one)),
+        several => out.group(|out| {
+            for one in several {
+                out.group(|out| print_fields(out, name, *one));
+            }
+        }),
+    }
 }
 
 fn print_fields(out: &mut crate::print::Printer, name: &'static str, i: GaussianIntervalV1) {

@@ -3,10 +3,13 @@
 //! The text calls its solver, so a question is put from inside the call: the
 //! desk reads the host's lines there until a reply is taken.
 
+pub mod coverage;
 pub mod form;
 pub mod page;
 
-use estimator::{hex, Opening, Place, Refusal, Reply, Report, Requested, Sheet, Variant, LIMIT};
+use estimator::{
+    hex, Opening, Place, Refusal, Reply, Report, Requested, Row, Sheet, Variant, LIMIT,
+};
 use form::{Edit, Form};
 
 /// The other end of the conversation.
@@ -17,11 +20,36 @@ pub trait Host {
     fn answer(&mut self, text: &str);
 }
 
+/// What is run: a variant of the text as it stands, or the recipes under a coverage table.
+#[derive(Debug, Clone, Copy)]
+pub enum Text<'t> {
+    Alone(Variant),
+    Under(&'t [Row]),
+}
+
+impl Text<'_> {
+    pub fn run(
+        self,
+        opening: &Opening,
+        solver: &mut dyn FnMut(Place, f64, f64, usize) -> Reply,
+    ) -> Result<Report, Refusal> {
+        match self {
+            Text::Alone(variant) => estimator::run(variant, opening, solver),
+            Text::Under(table) => estimator::run_under(table, opening, solver),
+        }
+    }
+}
+
+/// A refusal's line.
+pub fn declined((number, position): Refusal) -> String {
+    format!("(declined {number} {position})")
+}
+
 /// Serves a host until its end.  `line` is the number of the last line read.
-pub fn serve(host: &mut dyn Host, variant: Variant, line: &mut u64) {
+pub fn serve(host: &mut dyn Host, text: Text<'_>, line: &mut u64) {
     let mut desk = Desk {
         host,
-        variant,
+        text,
         line,
         request: Opening::default(),
         due: Due::Nothing,
@@ -40,8 +68,18 @@ pub fn serve(host: &mut dyn Host, variant: Variant, line: &mut u64) {
     }
 }
 
+/// The whole standard output for a whole standard input and, if one is named, a whole
+/// coverage file: nothing is read where that is refused.
+pub fn output(file: Option<&[u8]>, input: &[u8]) -> Vec<u8> {
+    match file.map(coverage::load) {
+        None => answers(input, Text::Alone(Variant::Recipes)),
+        Some(Ok(table)) => answers(input, Text::Under(&table)),
+        Some(Err(refusal)) => (declined(refusal) + "\n").into_bytes(),
+    }
+}
+
 /// The whole standard output for a whole standard input.
-pub fn answers(input: &[u8], variant: Variant) -> Vec<u8> {
+pub fn answers(input: &[u8], text: Text<'_>) -> Vec<u8> {
     struct Whole<'i> {
         rest: &'i [u8],
         output: Vec<u8>,
@@ -59,7 +97,7 @@ pub fn answers(input: &[u8], variant: Variant) -> Vec<u8> {
         }
     }
     let mut whole = Whole { rest: input, output: Vec::new() };
-    serve(&mut whole, variant, &mut 0);
+    serve(&mut whole, text, &mut 0);
     whole.output
 }
 
@@ -82,7 +120,7 @@ enum Due {
 
 struct Desk<'h> {
     host: &'h mut dyn Host,
-    variant: Variant,
+    text: Text<'h>,
     line: &'h mut u64,
     request: Opening,
     due: Due,
@@ -109,8 +147,8 @@ impl Desk<'_> {
         self.host.answer(text);
     }
 
-    fn declined(&mut self, (number, position): Refusal) {
-        self.say(&format!("(declined {number} {position})"));
+    fn declined(&mut self, refusal: Refusal) {
+        self.say(&declined(refusal));
     }
 
     /// The next call; request lines, counts, pages and malformed lines are met here.
@@ -198,7 +236,8 @@ impl Desk<'_> {
         let mut shots = Vec::new();
         let mut rows = vec![[0.0; 5]; opening.distances.len()];
         let mut column = 0;
-        let outcome = estimator::run(self.variant, &opening, &mut |place, mv, bc, wanted| {
+        let text = self.text;
+        let outcome = text.run(&opening, &mut |place, mv, bc, wanted| {
             self.asked += 1;
             let list = if place == Place::Bands { "distances" } else { "shots" };
             let reply = self.ask(list, mv, bc, wanted);
@@ -238,7 +277,7 @@ impl Desk<'_> {
             Ok((distances, rows)) => {
                 standing.opening.distances = distances;
                 standing.rows = rows;
-                let report = standing.again(self.variant);
+                let report = standing.again(self.text);
                 self.say(&report.line);
                 standing.sheet = report.sheet;
             }
@@ -288,10 +327,10 @@ impl Desk<'_> {
 
 impl Standing {
     /// A fresh run of the text with the recorded replies.
-    fn again(&self, variant: Variant) -> Report {
+    fn again(&self, text: Text<'_>) -> Report {
         let mut shots = self.shots.iter();
         let mut column = 0;
-        let outcome = estimator::run(variant, &self.opening, &mut |place, _, _, _| {
+        let outcome = text.run(&self.opening, &mut |place, _, _, _| {
             if place != Place::Bands {
                 return shots.next().expect("the fit's questions are the same").clone();
             }

@@ -2,13 +2,13 @@
 //! what is answered where no session is.
 
 use estimator::Variant;
-use oracle::answers;
 use oracle::form::{read, Edit, Form};
+use oracle::{answers, Text};
 
 const H: &str = "4059000000000000";
 
 fn due(input: &[u8]) -> String {
-    String::from_utf8(answers(input, Variant::Recipes)).expect("answers are letters")
+    String::from_utf8(answers(input, Text::Alone(Variant::Recipes))).expect("answers are letters")
 }
 
 /// The answer to one line at the beginning, its line feed added.

@@ -1,8 +1,10 @@
-// The session's answers as lines of the protocol, without their line feeds.
+// The session's answers as lines of the protocol, under a coverage table, without their line feeds.
 #![tactic(auto)]
 
 ghost use Rattle.std.specs.Prelude.{◌≡◌};
+ghost use Rattle.coverage.specs.Table.{rows_in};
 ghost use Rattle.report.specs.Reading.{baseline_results, report_in};
+ghost use Rattle.covered_report.specs.Reading.{covered_in};
 ghost use Rattle.editing.specs.Meaning.{state};
 ghost use Rattle.report_text.specs.Writing.{Writes};
 ghost use Rattle.report_text.specs.Writer.{Wrote};
@@ -10,10 +12,11 @@ ghost use Rattle.report_text.specs.Texts.{or_none, result_text, band_text};
 ghost use Rattle.answer_text.specs.Answers.{texts_in, entered_text, shown_text, standing_text, answer_text};
 
 use bands::TruingPredictiveBandV1;
+use coverage::Table;
 use definition::{Step, WeightedTruingObservationResultV1};
 use editing::{Answer, Session};
 use report::{TruingBaselineV1, UncertaintyTruingReportV1};
-use report_text::{First, Places, Text, Writer};
+use report_text::{First, Places, Text, Under, Writer};
 use words::Word;
 
 // ---- the lists of the report that stands
@@ -24,7 +27,7 @@ struct Observations<'a>(&'a Session);
 impl Places for Observations<'_> {
     type Item = WeightedTruingObservationResultV1;
 
-    ghost texts = { λ l i. texts_in result_text (λ p. p.observations) l.0.now i };
+    ghost texts = { λ l i. texts_in result_text (λ p. p.observations) (report_in (state l.0.now)) i };
 
     fn get(&self, i: usize) -> Option<WeightedTruingObservationResultV1> {
         editing::observation_result(*self.0, i)
@@ -37,7 +40,7 @@ struct BaselineResults<'a>(&'a Session);
 impl Places for BaselineResults<'_> {
     type Item = WeightedTruingObservationResultV1;
 
-    ghost texts = { λ l i. texts_in result_text baseline_results l.0.now i };
+    ghost texts = { λ l i. texts_in result_text baseline_results (report_in (state l.0.now)) i };
 
     fn get(&self, i: usize) -> Option<WeightedTruingObservationResultV1> {
         editing::baseline_result(*self.0, i)
@@ -45,16 +48,20 @@ impl Places for BaselineResults<'_> {
 }
 
 #[derive(Clone, Copy)]
-struct Bands<'a>(&'a Session);
+struct Bands<'a> {
+    session: &'a Session,
+    table: &'a Table,
+}
 
-impl Places for Bands<'_> {
-    type Item = TruingPredictiveBandV1;
+impl<'a> Places for Bands<'a> {
+    type Item = Under<'a, TruingPredictiveBandV1>;
 
-    ghost texts = { λ l i. texts_in band_text (λ p. p.bands) l.0.now i };
+    ghost texts = { λ l i. texts_in band_text (λ p. p.bands) (covered_in (rows_in l.table.now) (state l.session.now)) i };
 
-    #[tactic(auto, using(crate::proofs::Laws::said_texts))]
-    fn get(&self, i: usize) -> Option<TruingPredictiveBandV1> {
-        editing::predictive_band(*self.0, i)
+    fn get(&self, i: usize) -> Option<Under<'a, TruingPredictiveBandV1>> {
+        let table = self.table;
+        let it = editing::predictive_band(*self.session, i)?;
+        Some(Under { table, it })
     }
 }
 
@@ -85,19 +92,24 @@ impl Text for Entered<'_> {
     }
 }
 
-// A report by its head, its lists read from the session.
+// A report under a table, by its head, its lists read from the session.
 #[derive(Clone, Copy)]
 struct Shown<'a> {
     session: &'a Session,
+    table: &'a Table,
     head: UncertaintyTruingReportV1,
 }
 
 impl Text for Shown<'_> {
-    ghost text = { λ r. shown_text r.session.now r.head };
+    ghost text = { λ r. shown_text (rows_in r.table.now) r.session.now r.head };
 
     #[tactic(auto, using(report_text::proofs::Putting::next_field, report_text::proofs::Putting::closing), unfolding(crate::specs::Answers::shown_text, report_text::specs::Texts::parts_text, words::specs::Words::word_at))]
     fn put(&self, w: &mut Writer<'_>) {
-        let Shown { session, head } = self;
+        let Shown {
+            session,
+            table,
+            head,
+        } = self;
         w.open(&Word::Report);
         w.field(&(head.schema_version as u64));
         w.field(&head.map_muzzle_velocity_fps);
@@ -117,10 +129,13 @@ impl Text for Shown<'_> {
             },
         });
         w.field(&head.diagnostics);
-        w.field(&head.approximation);
+        w.field(&Under {
+            table,
+            it: head.approximation,
+        });
         w.field(&First {
             n: head.predictive_bands,
-            places: Bands(session),
+            places: Bands { session, table },
         });
         w.field(&head.warnings);
         w.close();
@@ -129,22 +144,30 @@ impl Text for Shown<'_> {
 
 // The report that stands, or nothing where none does.
 #[tactic(auto, using(crate::proofs::Laws::one_stands, crate::proofs::Laws::none_stands, report_text::proofs::Putting::wrote_nothing))]
-fn put_report(w: &mut Writer<'_>, s: Session)
-    ensures { Wrote w.old w.new (standing_text (report_in (state s))) }
+fn put_report(w: &mut Writer<'_>, s: Session, table: &Table)
+    ensures { Wrote w.old w.new (standing_text (covered_in (rows_in table.now) (state s))) }
 {
-    match editing::report(s) {
+    match covered_report::report(s, table) {
         None => {}
-        Some(head) => Shown { session: &s, head }.put(w),
+        Some(head) => {
+            let session = &s;
+            let shown = Shown {
+                session,
+                table,
+                head,
+            };
+            shown.put(w);
+        }
     }
 }
 
 #[tactic(auto, unfolding(crate::specs::Answers::answer_text, report_text::specs::Texts::question_text, report_text::specs::Texts::declined_text, words::specs::Words::word_at))]
-pub fn write_answer(w: &mut Writer<'_>, a: Answer)
-    ensures { Wrote w.old w.new (answer_text a) }
+pub fn write_answer(w: &mut Writer<'_>, a: Answer, table: &Table)
+    ensures { Wrote w.old w.new (answer_text (rows_in table.now) a) }
 {
     match a.step {
         Step::Question(mv, bc, list) => (Word::Question, list, mv, bc).put(w),
-        Step::Report => put_report(w, a.session),
+        Step::Report => put_report(w, a.session, table),
         Step::Refused(refusal) => {
             let (number, position) = (refusal.code.number(), refusal.position as u64);
             (Word::Declined, number, position).put(w);
@@ -153,10 +176,10 @@ pub fn write_answer(w: &mut Writer<'_>, a: Answer)
 }
 
 // The answer from `at` on: the next position.
-pub fn put_answer(out: &mut [u8], at: usize, a: Answer) -> usize
-    ensures { Writes out.old at out.new result (answer_text a) }
+pub fn put_answer(out: &mut [u8], at: usize, a: Answer, table: &Table) -> usize
+    ensures { Writes out.old at out.new result (answer_text (rows_in table.now) a) }
 {
     let mut w = Writer::new(out, at);
-    write_answer(&mut w, a);
+    write_answer(&mut w, a, table);
     w.at()
 }

@@ -119,7 +119,7 @@ reply_kept s u h es = by (leb (length es) 65) refl
     by true e = ap (λ (fs : List Entry). calls u (reply fs)) (take_all 65 es (leb-true (length es) 65 e))
     by false e =
         let r = declined_long u.opening u.at (rest_at u.opening u.at) refl (asks_few s u.opening u.at h) es (leb-false (length es) 65 e) in
-        λ i. (record { lines = u.lines; section = u.section; request = u.request; opening = u.opening; at = r.0 i }, says (r.1 i))
+        λ i. (record { lines = u.lines; section = u.section; request = u.request; opening = u.opening; at = r.0 i; table = u.table }, says (r.1 i))
 
 -- a line as it is kept gets the answer of the whole line
 pub answer_short : (s : Session) (u : Conversation) → Stands s u.opening u.at → (f : Form) → answer_to u (short f) ≡ answer_to u f

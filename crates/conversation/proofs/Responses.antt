@@ -9,7 +9,6 @@ use borrow.Author.Tests.{ltb-true, ltb-false}
 use lib.Dec.{ltb}
 use lib.ListN.{length, drop, length-append, take-append-drop}
 use Rattle.definition.specs.Request.{Opening}
-use Rattle.definition.specs.Summary.{Report}
 use Rattle.definition.specs.Laws.{put}
 use Rattle.definition.specs.Whole.{whole}
 use Rattle.definition.specs.Session.{more_of, says_of, Opened}
@@ -18,11 +17,16 @@ use Rattle.definition.specs.declared.Step.TheVariants as step
 use Rattle.lines.specs.Reading.{form_says, form_if}
 use Rattle.lines.specs.declared.Form.{Form as Read}
 use Rattle.lines.specs.declared.Line.{Line}
-use Rattle.report.specs.Reading.{report_in}
+use Rattle.coverage.specs.Rows.{Table}
+use Rattle.coverage.specs.Table.{rows_in}
+use Rattle.coverage.specs.Report.{CoveredReport}
+use Rattle.coverage.specs.declared.Table.{Table as TableHeld}
+use Rattle.coverage.proofs.TableRows.{rows_most}
+use Rattle.covered_report.specs.Reading.{covered_in}
 use Rattle.editing.specs.Meaning.{state, seen}
 use Rattle.editing.specs.declared.Session.{Session}
 use Rattle.editing.specs.Meaning.{Answer as Given}
-use Rattle.demands.specs.Calls.{Call}
+use Rattle.demands.specs.Calls.{Call, finished_at, covered_by}
 use Rattle.demands.specs.Demands.{Meets, count}
 use Rattle.report_text.proofs.Writing as writing
 use Rattle.report_text.specs.Writing.{Text, Writes}
@@ -40,7 +44,7 @@ use Rattle.answer_text.proofs.Fits.{answer_fits}
 use Rattle.page_text.specs.Page.{lines_in, page_in}
 use Rattle.page.proofs.Laws.{page_length}
 use Rattle.conversation.specs.Conversation.{Conversation, Answer, malformed_at, Answered, answer_text, malformed_line, collected, in_place, opens, calls}
-use Rattle.conversation.specs.Conversation.{said_text, page_answer, takes_shot, answer_to, next_line}
+use Rattle.conversation.specs.Conversation.{said_text, page_answer, shown_in, takes_shot, answer_to, next_line}
 use Rattle.requests.specs.Kept.{held, Keeps}
 use Rattle.conversation.specs.Tracks.{Tracks, response_says, response_text, Responds, Fills, Answers, AnswersUnended}
 use Rattle.conversation.specs.declared.Section.{Section}
@@ -73,20 +77,20 @@ module _ (h : Held) (u : Conversation) (k : Tracks h u) where
   malformed_responds = record { conversation = k; says = ap malformed_at k.lines }
 
   pub collected_responds : (s section : Section) (r : Request) (o : Opening) → s ≡ section → Keeps r o
-      → Responds (record { lines = h.lines; section = s; request = r; session = h.session }) None (collected u section o)
-  collected_responds s section r o e q = record { conversation = record { lines = k.lines; section = e; request = q; session = k.session }; says = refl }
+      → Responds (record { lines = h.lines; section = s; request = r; session = h.session; table = h.table }) None (collected u section o)
+  collected_responds s section r o e q = record { conversation = record { lines = k.lines; section = e; request = q; session = k.session; table = k.table }; says = refl }
 
   pub call_responds : (x : Call) (a : Given) → Meets x h.session a
-      → Responds (record { lines = h.lines; section = h.section; request = h.request; session = a.session }) (Some (response.Says a.step)) (calls u x)
+      → Responds (record { lines = h.lines; section = h.section; request = h.request; session = a.session; table = h.table }) (Some (response.Says a.step)) (calls u x)
   call_responds x a m =
       let c = called h.session u.opening u.at k.session x a m in
-      record { conversation = record { lines = k.lines; section = k.section; request = k.request; session = c.stands }; says = ap Answer.says c.says }
+      record { conversation = record { lines = k.lines; section = k.section; request = k.request; session = c.stands; table = k.table }; says = ap Answer.says c.says }
 
   pub open_responds : (a : Given) → Opened seen (held h.request) (says_of a.step) a.session
-      → Responds (record { lines = h.lines; section = Closed; request = h.request; session = a.session }) (Some (response.Says a.step)) (opens u)
+      → Responds (record { lines = h.lines; section = Closed; request = h.request; session = a.session; table = h.table }) (Some (response.Says a.step)) (opens u)
   open_responds a m =
       let c = opened u.request a (subst (λ (o : Opening). Opened seen o (says_of a.step) a.session) k.request.same m) in
-      record { conversation = record { lines = k.lines; section = refl; request = k.request; session = c.stands }; says = ap Answer.says c.says }
+      record { conversation = record { lines = k.lines; section = refl; request = k.request; session = c.stands; table = k.table }; says = ap Answer.says c.says }
 
   pub asked_responds : (n : ℕ) → n ≡ count h.session → Responds h (Some (response.Asked n)) (u, Answer.count (put (whole u.opening) u.at.run))
   asked_responds n e = record { conversation = k; says = ap Answer.count (e ∙ counts h.session u.opening u.at k.session) }
@@ -94,20 +98,25 @@ module _ (h : Held) (u : Conversation) (k : Tracks h u) where
   pub page_responds : Responds h (Some response.Page) (u, Answer.shown_page)
   page_responds = record { conversation = k; says = refl }
 
-  pub text_so : (r : Option Response) (a : Answer) → response_says r ≡ a → response_text h.session r ≡ answer_text u a
+  shown : covered_in (rows_in h.table) (state h.session) ≡ shown_in u
+  shown =
+      reported (rows_in h.table) h.session u.opening u.at k.session
+      ∙ ap (λ (t : Table). covered_by t (finished_at u.opening u.at)) k.table
+
+  pub text_so : (r : Option Response) (a : Answer) → response_says r ≡ a → response_text (rows_in h.table) h.session r ≡ answer_text u a
   text_so r a e = by r ∙ ap (answer_text u) e
     where
-      by : (r : Option Response) → response_text h.session r ≡ answer_text u (response_says r)
+      by : (r : Option Response) → response_text (rows_in h.table) h.session r ≡ answer_text u (response_says r)
       by None = refl
       by (Some (response.Malformed n)) = refl
       by (Some (response.Asked n)) = refl
-      by (Some response.Page) = ap page_answer (reported h.session u.opening u.at k.session)
-      by (Some (response.Says step)) = ap (λ (p : Option Report). line (said_text (says_of step) p)) (reported h.session u.opening u.at k.session)
+      by (Some response.Page) = ap page_answer shown
+      by (Some (response.Says step)) = ap (λ (p : Option CoveredReport). line (said_text (says_of step) p)) shown
 
 -- ---- texts
 
 -- what an answer says is the answer's text
-pub said_same : (x : Step) (p : Option Report) → answers.said_text x p ≡ said_text (says_of x) p
+pub said_same : (x : Step) (p : Option CoveredReport) → answers.said_text x p ≡ said_text (says_of x) p
 said_same (step.Question mv bc list) p = refl
 said_same step.Report p = refl
 said_same (step.Refused r) p = refl
@@ -125,28 +134,30 @@ unfolding word_at page_count_text
 page_word n = refl
 
 -- the page and its head fit the buffer
-page_fits : (s : Session) → length (page_answer (report_in (state s))) ≤ 32768
-page_fits s =
-    let head = page_count_text (length (lines_in (report_in (state s)))) in
+page_fits : (t : Table) → length t ≤ 8 → (s : Session) → length (page_answer (covered_in t (state s))) ≤ 131072
+page_fits t few s =
+    let shown = covered_in t (state s) in
+    let head = page_count_text (length (lines_in shown)) in
     omega (
       arith,
-      page_count_length (length (lines_in (report_in (state s)))),
+      page_count_length (length (lines_in shown)),
       length-append head (10 ∷ []),
-      length-append (line head) (page_in (report_in (state s))),
-      page_length s,
+      length-append (line head) (page_in shown),
+      page_length t few s,
     )
 
-said_fits : (s : Session) (x : Step) → length (line (said_text (says_of x) (report_in (state s)))) ≤ 32768
+said_fits : (w : TableHeld) (s : Session) (x : Step) → length (line (said_text (says_of x) (covered_in (rows_in w) (state s)))) ≤ 131072
 unfolding answers.answer_text
-said_fits s x = subst (λ (t : Text). length (line t) ≤ 32768) (said_same x (report_in (state s))) (answer_fits (record { step = x; session = s }))
+said_fits w s x = subst (λ (t : Text). length (line t) ≤ 131072) (said_same x (covered_in (rows_in w) (state s)))
+    (answer_fits (rows_in w) (rows_most w) (record { step = x; session = s }))
 
 -- every response fits the buffer
-pub response_fits : (s : Session) (r : Option Response) → length (response_text s r) ≤ 32768
-response_fits s None = omega arith
-response_fits s (Some (response.Malformed n)) = omega (arith, malformed_length n, length-append (malformed_text n) (10 ∷ []))
-response_fits s (Some (response.Asked n)) = omega (arith, asked_length n, length-append (asked_text n) (10 ∷ []))
-response_fits s (Some response.Page) = page_fits s
-response_fits s (Some (response.Says x)) = said_fits s x
+pub response_fits : (w : TableHeld) (s : Session) (r : Option Response) → length (response_text (rows_in w) s r) ≤ 131072
+response_fits w s None = omega arith
+response_fits w s (Some (response.Malformed n)) = omega (arith, malformed_length n, length-append (malformed_text n) (10 ∷ []))
+response_fits w s (Some (response.Asked n)) = omega (arith, asked_length n, length-append (asked_text n) (10 ∷ []))
+response_fits w s (Some response.Page) = page_fits (rows_in w) (rows_most w) s
+response_fits w s (Some (response.Says x)) = said_fits w s x
 
 -- a text that fits is written whole
 pub fills : {out after_call : Text} {n : ℕ} {text : Text} → length text ≤ length out → Writes out 0 after_call n text → Fills out after_call n text
@@ -162,13 +173,13 @@ fills {out} {after_call} {n} {text} h w =
 
 -- what is answered stands whole in the buffer
 pub answered_fills :
-    {out after_call : Text} {n : ℕ} (h : Held) (u : Conversation) → Tracks h u → (r : Option Response) (a : Answer) → response_says r ≡ a → length out ≡ 32768
-    → Writes out 0 after_call n (response_text h.session r) → Fills out after_call n (answer_text u a)
+    {out after_call : Text} {n : ℕ} (h : Held) (u : Conversation) → Tracks h u → (r : Option Response) (a : Answer) → response_says r ≡ a → length out ≡ 131072
+    → Writes out 0 after_call n (response_text (rows_in h.table) h.session r) → Fills out after_call n (answer_text u a)
 answered_fills {out} {after_call} {n} h u k r a e l w = subst (Fills out after_call n) (text_so h u k r a e)
-    (fills (omega (arith, response_fits h.session r)) w)
+    (fills (omega (arith, response_fits h.table h.session r)) w)
 
 pub malformed_fills :
-    {out after_call : Text} {n : ℕ} (m : ℕ) → length out ≡ 32768 → Writes out 0 after_call n (line (malformed_text m))
+    {out after_call : Text} {n : ℕ} (m : ℕ) → length out ≡ 131072 → Writes out 0 after_call n (line (malformed_text m))
     → Fills out after_call n (line (malformed_text m))
 malformed_fills {out} {after_call} {n} m l w = fills (omega (arith, malformed_length m, length-append (malformed_text m) (10 ∷ []))) w
 
@@ -179,14 +190,14 @@ same_buffer w v text e = sym (ap (λ (h : writer.Held). h.buffer) e)
 
 -- a line's answer, once it is written
 pub line_answers :
-    {h k : Held} {l : Option Line} {out after_line : Text} {n : ℕ} {r : Option Response} → length out ≡ 32768
-    → Writes out 0 after_line n (response_text k.session r) → ((t : Conversation) → Tracks h t → Responds k r (answer_to (next_line t) (form_if l)))
+    {h k : Held} {l : Option Line} {out after_line : Text} {n : ℕ} {r : Option Response} → length out ≡ 131072
+    → Writes out 0 after_line n (response_text (rows_in k.table) k.session r) → ((t : Conversation) → Tracks h t → Responds k r (answer_to (next_line t) (form_if l)))
     → Answers h l out after_line k n
 line_answers {h} {k} {l} {out} {after_line} {n} {r} e w d =
     record { room = writing.same_room w; goes = λ t m. let a = d t m in (a.conversation, answered_fills k _ a.conversation r _ a.says e w) }
 
 pub unended_answers :
-    {h : Held} {out after_line : Text} {n m : ℕ} → length out ≡ 32768
+    {h : Held} {out after_line : Text} {n m : ℕ} → length out ≡ 131072
     → Writes out 0 after_line n (line (bracketed (word_at (place_in word.Malformed) ∷ count_text m ∷ []))) → m ≡ more_of h.lines
     → AnswersUnended h out after_line n
 unended_answers {h} {out} {after_line} {n} {m} e w d = record {

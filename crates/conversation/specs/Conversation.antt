@@ -5,11 +5,12 @@ use Rattle.std.specs.Prelude.{ℕ, Bool, true, false, [], ◌++◌, length, Opti
 use Rattle.numeric.specs.Numeric.{zero64}
 use Rattle.definition.specs.Request.{Opening}
 use Rattle.definition.specs.Laws.{put}
-use Rattle.definition.specs.Summary.{Report}
+use Rattle.coverage.specs.Rows.{Table}
+use Rattle.coverage.specs.Report.{CoveredReport}
 use Rattle.definition.specs.Whole as edits
 use Rattle.definition.specs.Whole.{whole}
 use Rattle.definition.specs.Session.{Said, head, more_of}
-use Rattle.demands.specs.Calls.{Call, reply, refuse_point, change, At, first, finished_at, report_by, after_call, due_to}
+use Rattle.demands.specs.Calls.{Call, reply, refuse_point, change, At, first, finished_at, covered_by, after_call, due_to}
 use Rattle.lines.specs.Lines.{Form, malformed, entered, shot, prior_speed, prior_coefficient, distance, open_plain, drops, refused, put_in, take_out, exchange}
 use Rattle.lines.specs.Lines.{asked, page}
 use Rattle.report_text.specs.Writing.{Text}
@@ -23,25 +24,27 @@ use Rattle.conversation.specs.declared.Section.TheVariants.{Closed, Shots, Prior
 
 -- ---- where a conversation stands
 
--- The number of lines read; the request so far, with the section that it is in; and the session: its opening, and where its run and its edits stand.
+-- The number of lines read; the request so far, with the section that it is in; the session: its opening, and where its run and its edits stand; and the
+-- coverage table, under which reports and pages are shown.
 pub record Conversation : Type 0 where
   pub lines : ℕ
   pub section : Section
   pub request : Opening
   pub opening : Opening
   pub at : At
+  pub table : Table
 
 -- Before the first (open plain) the session is that of an empty request, which is declined: there is none, and every call gets what it gets after a declined
 -- opening.
 abbrev pub no_request : Opening
 no_request = empty_request (record { mv = zero64; bc = zero64 })
 
-abbrev pub initial : Conversation
-initial = record { lines = 0; section = Closed; request = no_request; opening = no_request; at = first }
+abbrev pub initial : Table → Conversation
+initial table = record { lines = 0; section = Closed; request = no_request; opening = no_request; at = first; table = table }
 
 -- the number of the line that is read now; it stays at the largest that 64 bits hold
 abbrev pub next_line : Conversation → Conversation
-next_line t = record { lines = more_of t.lines; section = t.section; request = t.request; opening = t.opening; at = t.at }
+next_line t = record { lines = more_of t.lines; section = t.section; request = t.request; opening = t.opening; at = t.at; table = t.table }
 
 -- ---- the request
 
@@ -96,16 +99,20 @@ in_place false t a = malformed_line t
 
 -- a line of the request: the session stays as it is
 abbrev pub collected : Conversation → Section → Opening → Answered
-collected t section o = (record { lines = t.lines; section = section; request = o; opening = t.opening; at = t.at }, nothing)
+collected t section o = (record { lines = t.lines; section = section; request = o; opening = t.opening; at = t.at; table = t.table }, nothing)
 
 -- (open plain): the request becomes the session
 abbrev pub opens : Conversation → Answered
-opens t = (record { lines = t.lines; section = Closed; request = t.request; opening = t.request; at = first }, says (head (whole t.request)))
+opens t = (
+  record { lines = t.lines; section = Closed; request = t.request; opening = t.request; at = first; table = t.table },
+  says
+      (head (whole t.request)),
+)
 
 -- a call on the session
 abbrev pub calls : Conversation → Call → Answered
 calls t x = (
-  record { lines = t.lines; section = t.section; request = t.request; opening = t.opening; at = after_call t.opening t.at x },
+  record { lines = t.lines; section = t.section; request = t.request; opening = t.opening; at = after_call t.opening t.at x; table = t.table },
   says
       (due_to t.opening t.at x),
 )
@@ -131,21 +138,25 @@ answer_to t page = (t, shown_page)
 -- ---- texts
 
 -- what is said, with the report that stands then
-abbrev pub said_text : Said → Option Report → Text
+abbrev pub said_text : Said → Option CoveredReport → Text
 said_text (Said.question mv bc list) shown = question_text list mv bc
 said_text Said.report shown = standing_text shown
 said_text (Said.refusal number position) shown = declined_text number position
 
 -- how many lines the page has, and these
-abbrev pub page_answer : Option Report → Text
+abbrev pub page_answer : Option CoveredReport → Text
 page_answer shown = line (page_count_text (length (lines_in shown))) ++ page_in shown
+
+-- the report that stands, under the table
+abbrev pub shown_in : Conversation → Option CoveredReport
+shown_in t = covered_by t.table (finished_at t.opening t.at)
 
 abbrev pub answer_text : Conversation → Answer → Text
 answer_text t nothing = []
 answer_text t (malformed_at n) = line (malformed_text n)
 answer_text t (count n) = line (asked_text n)
-answer_text t shown_page = page_answer (report_by (finished_at t.opening t.at))
-answer_text t (says x) = line (said_text x (report_by (finished_at t.opening t.at)))
+answer_text t shown_page = page_answer (shown_in t)
+answer_text t (says x) = line (said_text x (shown_in t))
 
 abbrev pub text_of : Answered → Text
 text_of a = answer_text a.0 a.1

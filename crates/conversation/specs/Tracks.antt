@@ -3,7 +3,9 @@ use Rattle.std.specs.Prelude.{ℕ, ◌≡◌, [], ◌++◌, ◌⊎◌, length, d
 use Rattle.definition.specs.Request.{Opening}
 use Rattle.definition.specs.Run.{refuse}
 use Rattle.definition.specs.Whole.{whole}
-use Rattle.report.specs.Reading.{report_in}
+use Rattle.coverage.specs.Rows.{Table}
+use Rattle.coverage.specs.Table.{rows_in}
+use Rattle.covered_report.specs.Reading.{covered_in}
 use Rattle.editing.specs.Meaning.{state}
 use Rattle.editing.specs.declared.Session.{Session}
 use Rattle.demands.specs.Calls.{At, first}
@@ -42,6 +44,7 @@ pub record Tracks (h : Held) (t : Conversation) : Type 0 where
   pub section : h.section ≡ t.section
   pub request : Keeps h.request t.request
   pub session : Stands h.session t.opening t.at
+  pub table : rows_in h.table ≡ t.table
 
 -- ---- what is answered
 
@@ -52,13 +55,13 @@ response_says (Some (response.Asked n)) = count n
 response_says (Some response.Page) = shown_page
 response_says (Some (response.Says step)) = says (says_of step)
 
--- by the session that the code holds
-abbrev pub response_text : Session → Option Response → Text
-response_text s None = []
-response_text s (Some (response.Malformed n)) = line (malformed_text n)
-response_text s (Some (response.Asked n)) = line (asked_text n)
-response_text s (Some response.Page) = page_answer (report_in (state s))
-response_text s (Some (response.Says step)) = line (said_text (says_of step) (report_in (state s)))
+-- by the table and the session that the code holds
+abbrev pub response_text : Table → Session → Option Response → Text
+response_text t s None = []
+response_text t s (Some (response.Malformed n)) = line (malformed_text n)
+response_text t s (Some (response.Asked n)) = line (asked_text n)
+response_text t s (Some response.Page) = page_answer (covered_in t (state s))
+response_text t s (Some (response.Says step)) = line (said_text (says_of step) (covered_in t (state s)))
 
 -- where the line leads the code's conversation, and what the code answers
 pub record Responds (h : Held) (r : Option Response) (a : Answered) : Type 0 where

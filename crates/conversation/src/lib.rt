@@ -4,7 +4,8 @@
 ghost use Rattle.std.specs.Prelude.{◌≡◌, ◌∷◌, []};
 ghost use Rattle.words.specs.Words.{word_at, place_in};
 ghost use Rattle.numerals.specs.Numbers.{count_text};
-ghost use Rattle.report.specs.Reading.{report_in};
+ghost use Rattle.coverage.specs.Table.{rows_in};
+ghost use Rattle.covered_report.specs.Reading.{covered_in};
 ghost use Rattle.definition.specs.Session.{says_of, more_of};
 ghost use Rattle.editing.specs.Meaning.{state};
 ghost use Rattle.demands.specs.Calls.{Call};
@@ -17,6 +18,7 @@ ghost use Rattle.conversation.specs.Conversation as defined;
 ghost use Rattle.conversation.specs.Conversation.{said_text, calls, answer_to, next_line, page_answer, initial};
 ghost use Rattle.conversation.specs.Tracks.{Tracks, response_text, Responds, Answers, AnswersUnended};
 
+use coverage::Table;
 use definition::{Point, Step};
 use editing::{Answer, Session};
 use lines::{Form, Line};
@@ -33,13 +35,14 @@ pub enum Section {
     Distances,
 }
 
-// The conversation: the lines read, the request with its section, and the session.
+// The conversation: the lines read, the request with its section, the session, and the coverage table.
 #[derive(Clone, Copy)]
 pub struct Conversation {
     lines: u64,
     section: Section,
     request: Request,
     session: Session,
+    table: Table,
 }
 
 // What is written to a line, if anything is: that it is malformed, the count, the page, or the session's answer.
@@ -60,8 +63,8 @@ fn number_after(lines: u64) -> u64
 
 impl Conversation {
     // Before the first request there is no session: an empty request is refused.
-    pub fn new() -> Conversation
-        ensures { Tracks result initial }
+    pub fn new(table: Table) -> Conversation
+        ensures { Tracks result (initial (rows_in table)) }
     {
         let request = Request::new(Point { mv: 0.0, bc: 0.0 });
         let session = request.open().session;
@@ -70,6 +73,7 @@ impl Conversation {
             section: Section::Closed,
             request,
             session,
+            table,
         }
     }
 
@@ -147,7 +151,7 @@ impl Conversation {
 
     // Takes a line of the host: how many bytes are written for it.
     #[tactic(auto, using(crate::proofs::Responses::same_buffer))]
-    pub fn answer(&mut self, line: Option<Line>, out: &mut [u8; 32768]) -> usize
+    pub fn answer(&mut self, line: Option<Line>, out: &mut [u8; 131072]) -> usize
         ensures { Answers self.old line out.old out.new self.new result }
     {
         self.next_line();
@@ -157,13 +161,13 @@ impl Conversation {
         };
         let response = self.respond(form);
         let mut w = Writer::new(out, 0);
-        put_response(&mut w, self.session, response);
+        put_response(&mut w, self.session, response, &self.table);
         w.at()
     }
 
     // The input has ended in a line without its line feed, which is malformed.
     #[tactic(auto, using(crate::proofs::Responses::same_buffer))]
-    pub fn unended(&self, out: &mut [u8; 32768]) -> usize
+    pub fn unended(&self, out: &mut [u8; 131072]) -> usize
         ensures { AnswersUnended self.now out.old out.new result }
     {
         let mut w = Writer::new(out, 0);
@@ -185,31 +189,31 @@ fn put_count(w: &mut Writer<'_>, word: Word, n: u64)
 
 // The session's answer, with its line feed.
 #[tactic(auto, using(report_text::proofs::Putting::put_put, crate::proofs::Responses::said_same), unfolding(answer_text::specs::Answers::answer_text))]
-fn put_step(w: &mut Writer<'_>, session: Session, step: Step)
-    ensures { Wrote w.old w.new (line (said_text (says_of step) (report_in (state session)))) }
+fn put_step(w: &mut Writer<'_>, session: Session, step: Step, table: &Table)
+    ensures { Wrote w.old w.new (line (said_text (says_of step) (covered_in (rows_in table.now) (state session)))) }
 {
-    answer_text::write_answer(w, Answer { step, session });
+    answer_text::write_answer(w, Answer { step, session }, table);
     w.put_byte(b'\n');
 }
 
 // How many lines the page of the session has, and these.
 #[tactic(auto, using(report_text::proofs::Putting::put_put, crate::proofs::Responses::page_word))]
-fn put_page(w: &mut Writer<'_>, session: Session)
-    ensures { Wrote w.old w.new (page_answer (report_in (state session))) }
+fn put_page(w: &mut Writer<'_>, session: Session, table: &Table)
+    ensures { Wrote w.old w.new (page_answer (covered_in (rows_in table.now) (state session))) }
 {
-    put_count(w, Word::Page, page::lines(session) as u64);
-    page::write_page(w, session);
+    put_count(w, Word::Page, page::lines(session, table) as u64);
+    page::write_page(w, session, table);
 }
 
 #[tactic(auto, using(report_text::proofs::Putting::wrote_nothing, crate::proofs::Responses::asked_word, crate::proofs::Responses::malformed_word))]
-fn put_response(w: &mut Writer<'_>, session: Session, response: Option<Response>)
-    ensures { Wrote w.old w.new (response_text session response) }
+fn put_response(w: &mut Writer<'_>, session: Session, response: Option<Response>, table: &Table)
+    ensures { Wrote w.old w.new (response_text (rows_in table.now) session response) }
 {
     match response {
         None => {}
         Some(Response::Malformed(n)) => put_count(w, Word::Malformed, n),
         Some(Response::Asked(n)) => put_count(w, Word::Asked, n),
-        Some(Response::Page) => put_page(w, session),
-        Some(Response::Says(step)) => put_step(w, session, step),
+        Some(Response::Page) => put_page(w, session, table),
+        Some(Response::Says(step)) => put_step(w, session, step, table),
     }
 }

@@ -4,3 +4,4 @@ pub mod Numbers
 pub mod Fitting
 pub mod Reader
 pub mod Figures
+pub mod Report

@@ -4,3 +4,4 @@ pub mod Table
 pub mod Reading
 pub mod Loading
 pub mod Rows
+pub mod Report

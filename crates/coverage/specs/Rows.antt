@@ -1,8 +1,6 @@
--- The rows of a laboratory's coverage table, and an interval at a row.
-use Rattle.std.specs.Prelude.{◌-◌, List, [], ◌∷◌, length, slice_index_or}
-use Rattle.std.specs.Float.{binary64}
-use Rattle.std.specs.Float.Ieee.{add, sub, mul}
-use Rattle.interval.specs.Interval.{level95, factor95}
+-- The rows of a laboratory's coverage table, and an interval by them.
+use Rattle.std.specs.Prelude.{◌-◌, List, [], ◌∷◌, map, length, slice_index_or}
+use Rattle.interval.specs.Interval.{level95, factor95, at_level}
 use Rattle.interval.specs.declared.GaussianIntervalV1.{GaussianIntervalV1}
 use Rattle.coverage.specs.declared.CoverageRow.{CoverageRow}
 
@@ -22,13 +20,9 @@ abbrev pub last_row : Table → CoverageRow
 last_row t = slice_index_or t (length t - 1) built_in_row
 
 -- an interval at a row: its estimate and its standard deviation, the half width by the row's factor, and the row's level
-unfoldable pub at_row : GaussianIntervalV1 → CoverageRow → GaussianIntervalV1
-at_row g r =
-    let half = mul binary64 r.factor g.standard_deviation in
-    record {
-      estimate = g.estimate;
-      standard_deviation = g.standard_deviation;
-      lower = sub binary64 g.estimate half;
-      upper = add binary64 g.estimate half;
-      probability = r.level;
-    }
+abbrev pub at_row : GaussianIntervalV1 → CoverageRow → GaussianIntervalV1
+at_row g r = at_level r.level r.factor g
+
+-- every interval comes once per row
+unfoldable pub rows_under : Table → GaussianIntervalV1 → List GaussianIntervalV1
+rows_under t g = map (at_row g) t

@@ -127,6 +127,13 @@ impl CoverageRow {
         factor: GaussianIntervalV1::FACTOR,
     };
 
+    // An interval at this row.
+    pub fn interval(self, g: GaussianIntervalV1) -> GaussianIntervalV1
+        ensures { result ≡ at_row g self }
+    {
+        g.at(self.level, self.factor)
+    }
+
     #[tactic(auto, unfolding(crate::specs::File::in_range))]
     fn in_range(&self) -> bool
         ensures { result ≡ in_range self.now }
@@ -185,18 +192,10 @@ impl Table {
     }
 
     // An interval at a row.
-    #[tactic(auto, unfolding(crate::specs::Rows::at_row))]
     pub fn interval_row(&self, k: usize, g: GaussianIntervalV1) -> GaussianIntervalV1
         ensures { result ≡ at_row g (slice_index_or (rows_in self.now) k built_in_row) }
     {
-        let r = self.row(k);
-        let half_width = r.factor * g.standard_deviation;
-        GaussianIntervalV1 {
-            lower: g.estimate - half_width,
-            upper: g.estimate + half_width,
-            probability: r.level,
-            ..g
-        }
+        self.row(k).interval(g)
     }
 
     // The place of the first row outside its range.

@@ -6,5 +6,5 @@ mod Presence
 pub mod Questions
 pub mod Reading
 mod Ranges
-mod Warnings
+pub mod Warnings
 pub mod Calls

@@ -4,6 +4,7 @@ use mathlib.Core.Path.{ap}
 use mathlib.Core.Bool.{Bool, true, false, not, ◌||◌}
 use mathlib.Core.List.{List, [], ◌∷◌}
 use native.Mathlib.Omega.{arith}
+use lib.ListN.{length}
 use lib.Ieee.{lt}
 use Rattle.numeric.specs.Numeric.{finite}
 use Rattle.definition.specs.Constants.{least_sensitivity_ratio, largest_condition}
@@ -11,7 +12,7 @@ use Rattle.definition.specs.Lists.{any}
 use Rattle.definition.specs.Request.{Requested, Measured}
 use Rattle.definition.specs.Fit.{Fit}
 use Rattle.definition.specs.Summary.{Approximation, Diagnostics, converged, is_mesh, where_available, is_unavailable, at_most_one, is_outside, warn}
-use Rattle.definition.specs.Summary.{warnings_of, report_of}
+use Rattle.definition.specs.Summary.{approximation_of, diagnostics_of, crosses_of, warnings_with, warnings_of, report_of}
 use Rattle.definition.specs.declared.Evaluation.{Evaluation}
 use Rattle.definition.specs.Laws.{index_of, RisingFrom, NotIn, Distinct, WarningsInOrder, WarningsOnce}
 use Rattle.definition.specs.declared.TruingUncertaintyWarningCodeV1.TheVariants as Warning
@@ -33,10 +34,10 @@ none_rising : (n : ℕ) → RisingFrom n []
 unfolding RisingFrom
 none_rising n = tt
 
-rising : (m : Measured) (f : Fit) (e : Evaluation) (a : Approximation) (d : Diagnostics) (requested : List Requested)
-    → RisingFrom 0 (warnings_of m f e a d requested)
-unfolding warnings_of
-rising m f e a d requested =
+-- however the crossing is judged
+pub rising : (crosses : Bool) (m : Measured) (f : Fit) (e : Evaluation) (a : Approximation) (d : Diagnostics) (requested : List Requested)
+    → RisingFrom 0 (warnings_with crosses m f e a d requested)
+rising crosses m f e a d requested =
     warn_rising 0 (not (converged f.convergence)) Warning.OptimizerDidNotConverge _ (omega arith)
     (warn_rising 1 (is_mesh f.convergence) Warning.ObjectiveMeshConvergence _ (omega arith)
     (warn_rising 2 (lt e.bc_sensitivity_ratio least_sensitivity_ratio) Warning.WeakBcSensitivity _ (omega arith)
@@ -44,13 +45,15 @@ rising m f e a d requested =
     (warn_rising 4 (where_available _ a) Warning.MvPriorDominated _ (omega arith)
     (warn_rising 5 (where_available _ a) Warning.BcPriorDominated _ (omega arith)
     (warn_rising 6 (is_unavailable a) Warning.GaussianApproximationUnavailable _ (omega arith)
-    (warn_rising 7 (where_available _ a) Warning.IntervalCrossesFitBounds _ (omega arith)
+    (warn_rising 7 crosses Warning.IntervalCrossesFitBounds _ (omega arith)
     (warn_rising 8 (at_most_one d.effective_degrees_of_freedom) Warning.LowEffectiveDegreesOfFreedom _ (omega arith)
     (warn_rising 9 (any (is_outside m.observations) requested) Warning.PredictionOutsideObservedDomain [] (omega arith) (none_rising 10))))))))))
 
 pub warnings_in_order : WarningsInOrder
-unfolding report_of
-warnings_in_order c = rising _ _ _ _ _ _
+unfolding report_of warnings_of
+warnings_in_order c =
+    let a = approximation_of (converged c.fit.convergence) c.fit.point c.evaluation.posterior_information in
+    rising (crosses_of a) c.measured c.fit c.evaluation a (diagnostics_of (length c.measured.observations) c.fit c.evaluation a) c.requested
 
 -- what rises from above a code's place does not have the code
 rising_not_in : (c : TruingUncertaintyWarningCodeV1) (n : ℕ) (cs : List TruingUncertaintyWarningCodeV1) → index_of c < n → RisingFrom n cs → NotIn c cs
@@ -58,7 +61,7 @@ unfolding RisingFrom
 rising_not_in c n [] h r = tt
 rising_not_in c n (d ∷ ds) h r = (λ e. omega (arith, r.0, ap index_of e), rising_not_in c (suc (index_of d)) ds (omega (arith, r.0)) r.1)
 
-rising_distinct : (n : ℕ) (cs : List TruingUncertaintyWarningCodeV1) → RisingFrom n cs → Distinct cs
+pub rising_distinct : (n : ℕ) (cs : List TruingUncertaintyWarningCodeV1) → RisingFrom n cs → Distinct cs
 unfolding RisingFrom
 rising_distinct n [] r = tt
 rising_distinct n (c ∷ cs) r = (rising_not_in c (suc (index_of c)) cs (omega arith) r.1, rising_distinct (suc (index_of c)) cs r.1)

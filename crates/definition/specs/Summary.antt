@@ -191,11 +191,15 @@ diagnostics_of n f e a =
 
 -- ---- predictive bands
 
-pub record Band : Type 0 where
+-- I: what an interval is told by, which is its record, or under a coverage table its rows (specs/Report.antt of `coverage`)
+pub record BandWith (I : Type 0) : Type 0 where
   pub range : Float
   pub predicted_drop : Float
-  pub latent : Option GaussianIntervalV1
-  pub future : Option GaussianIntervalV1
+  pub latent : Option I
+  pub future : Option I
+
+abbrev pub Band : Type 0
+Band = BandWith GaussianIntervalV1
 
 -- the variance of a predicted drop, by the scaled slopes g: a small negative one, by rounding, counts as 0, and a larger one gives none
 unfoldable pub band_variance_of : Symmetric2 → Float → Float → Option Float
@@ -285,9 +289,14 @@ abbrev pub warn : Bool → TruingUncertaintyWarningCodeV1 → List TruingUncerta
 warn true code rest = code ∷ rest
 warn false code rest = rest
 
--- each of the ten at most once, in the order in which the source pushes them; the one about the requested distances comes last
-unfoldable pub warnings_of : Measured → Fit → Evaluation → Approximation → Diagnostics → List Requested → List TruingUncertaintyWarningCodeV1
-warnings_of m f e a d requested =
+-- whether an interval of a parameter reaches beyond the fit's bounds
+abbrev pub crosses_of : Approximation → Bool
+crosses_of a = where_available (λ g. crosses_bounds_of g.muzzle_velocity_interval_95 g.ballistic_coefficient_interval_95) a
+
+-- each of the ten at most once, in the order in which the source pushes them; the one about the requested distances comes last. `crosses`: whether an interval
+-- reaches beyond the bounds.
+abbrev pub warnings_with : Bool → Measured → Fit → Evaluation → Approximation → Diagnostics → List Requested → List TruingUncertaintyWarningCodeV1
+warnings_with crosses m f e a d requested =
     warn (not (converged f.convergence)) Warning.OptimizerDidNotConverge
     (warn (is_mesh f.convergence) Warning.ObjectiveMeshConvergence
     (warn (lt e.bc_sensitivity_ratio least_sensitivity_ratio) Warning.WeakBcSensitivity
@@ -295,13 +304,24 @@ warnings_of m f e a d requested =
     (warn (where_available (λ g. dominated_of m.priors.muzzle_velocity_fps g.covariance.mv_variance_fps2) a) Warning.MvPriorDominated
     (warn (where_available (λ g. dominated_of m.priors.ballistic_coefficient g.covariance.bc_variance) a) Warning.BcPriorDominated
     (warn (is_unavailable a) Warning.GaussianApproximationUnavailable
-    (warn (where_available (λ g. crosses_bounds_of g.muzzle_velocity_interval_95 g.ballistic_coefficient_interval_95) a) Warning.IntervalCrossesFitBounds
+    (warn crosses Warning.IntervalCrossesFitBounds
     (warn (at_most_one d.effective_degrees_of_freedom) Warning.LowEffectiveDegreesOfFreedom
     (warn (any (is_outside m.observations) requested) Warning.PredictionOutsideObservedDomain [])))))))))
 
+abbrev pub Warns : Type 0
+Warns = Measured → Fit → Evaluation → Approximation → Diagnostics → List Requested → List TruingUncertaintyWarningCodeV1
+
+-- the crossing being judged in this way
+abbrev pub warned_by : (Approximation → Bool) → Warns
+warned_by crosses m f e a d requested = warnings_with (crosses a) m f e a d requested
+
+unfoldable pub warnings_of : Warns
+warnings_of m f e a d requested = warned_by crosses_of m f e a d requested
+
 -- ---- the report, its fields in the source's order
 
-pub record Report : Type 0 where
+-- A: what the approximation is told by; I: what an interval is
+pub record ReportWith (A I : Type 0) : Type 0 where
   pub schema_version : ℕ
   pub point : Point
   pub iterations : ℕ
@@ -310,9 +330,12 @@ pub record Report : Type 0 where
   pub observations : List WeightedTruingObservationResultV1
   pub baseline : Option Baseline
   pub diagnostics : Diagnostics
-  pub approximation : Approximation
-  pub bands : List Band
+  pub approximation : A
+  pub bands : List (BandWith I)
   pub warnings : List TruingUncertaintyWarningCodeV1
+
+abbrev pub Report : Type 0
+Report = ReportWith Approximation GaussianIntervalV1
 
 -- a finished run: the fit, the evaluation and the predicted drops at it, the requested distances with their rows, and the baseline
 pub record Finished : Type 0 where
@@ -324,8 +347,9 @@ pub record Finished : Type 0 where
   pub band_rows : Rows
   pub baseline : Option Baseline
 
-unfoldable pub report_of : Finished → Report
-report_of c =
+-- the report of a finished run, by how its approximation and its bands are told, and by its warnings
+abbrev pub report_with : {A I : Type 0} → (Approximation → A) → (Band → BandWith I) → Warns → Finished → ReportWith A I
+report_with approximation band warnings c =
     let m = c.measured in
     let f = c.fit in
     let e = c.evaluation in
@@ -340,7 +364,10 @@ report_of c =
       observations = results_of m.observations c.predicted;
       baseline = c.baseline;
       diagnostics = d;
-      approximation = a;
-      bands = zip_with (band_of a) c.requested (rows_of c.band_rows);
-      warnings = warnings_of m f e a d c.requested;
+      approximation = approximation a;
+      bands = zip_with (λ q r. band (band_of a q r)) c.requested (rows_of c.band_rows);
+      warnings = warnings m f e a d c.requested;
     }
+
+unfoldable pub report_of : Finished → Report
+report_of c = report_with (λ a. a) (λ b. b) warnings_of c

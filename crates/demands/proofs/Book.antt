@@ -4,21 +4,24 @@ use Rattle.std.proofs.Common.{refl, sym, ap, ◌∙◌, subst, arith}
 use Rattle.definition.specs.Request.{Requested, Opening}
 use Rattle.definition.specs.Run.{Run, done, refuse, ask, Entry, Reply, refused, entries, Which, shots, distances, new}
 use Rattle.definition.specs.Host.{Outcome, ends, refuses, Host, play, questions}
-use Rattle.definition.specs.Summary.{Finished, Report, report_of}
+use Rattle.definition.specs.Summary.{Finished, report_of, crosses_of, warnings_of}
 use Rattle.definition.specs.Whole.{whole, Edit, put_in, take_out, exchange, edited, placed, edit}
 use Rattle.definition.specs.Laws.{Asks}
 use Rattle.definition.specs.declared.Point.{Point}
 use Rattle.definition.proofs.Questions.{asks_now, asks_next, asks_whole, asks_edit}
-use Rattle.fresh_outcome.specs.Solver.{Solver, reply_at, host_of, with_list, fresh, BandAlone}
+use Rattle.fresh_outcome.specs.Solver.{Solver, reply_at, host_of, with_list, fresh}
 use Rattle.fresh_outcome.proofs.Edits.{edit_fresh, list_kept}
 use Rattle.fresh_outcome.proofs.Reports.{only_band}
+use Rattle.coverage.specs.Rows.{rows_under}
+use Rattle.coverage.specs.Report.{approximation_by, band_by, crosses_under, warnings_under, report_under}
+use Rattle.demands.specs.Demands.{OnlyBandOf}
 use Rattle.definition.specs.Session.{Said, head, list_of, sizes_for, wants}
-use Rattle.demands.specs.Calls.{Call, reply, refuse_point, change, resume, Editing, At, first, rest_at, kept_by, finished_by, finished_at, report_by, Taking}
+use Rattle.demands.specs.Calls.{Call, reply, refuse_point, change, resume, Editing, At, first, rest_at, kept_by, finished_by, finished_at, Taking}
 use Rattle.demands.specs.Calls.{declines, takes, taking_reply, taking_refusal, taking_edit, stance, with_reply, with_edit, after_taken, unless_declined}
 use Rattle.demands.specs.Calls.{after_call, due, due_to}
 use Rattle.demands.specs.Book.{size_of, heard, Where, in_run, idle, in_edit, Book, is_report, opened, reports, ruled_reply, ruled_refusal, ruled_edit, ruled}
 use Rattle.demands.specs.Book.{stands_by, settled, edit_heard, run_heard, reply_heard, call_heard, booked, Question, about_of, question_in, Trail, replies_with}
-use Rattle.demands.specs.Book.{begun, followed, Replies, Comes, FromSolver, said_by, report_from, Ends, Edits, standing_report, Holds}
+use Rattle.demands.specs.Book.{begun, followed, Replies, Comes, FromSolver, said_by, finished_from, Ends, Edits, standing_run, Holds}
 
 -- ---- in general
 
@@ -38,17 +41,17 @@ if_takes : (b : Bool) (n : ℕ) → cond b takes (declines n) ≡ takes → b �
 if_takes true n e = refl
 if_takes false n e = apart e
 
--- the value of an outcome
-abbrev end_of : Outcome Finished → Option Finished
-end_of (ends c) = Some c
-end_of (refuses n i) = None
+-- what an edit changes in a report, without a table and under every one
+only_band_of : (σ : Solver) (o : Opening) (l : List Requested) (c d : Finished) (e : Edit) → fresh σ o l ≡ ends c → placed e (length l) ≡ true
+    → fresh σ o (edited e l) ≡ ends d → OnlyBandOf e c d
+unfolding report_of warnings_of report_under warnings_under
+only_band_of σ o l c d e w p v = record {
+  plain = only_band σ o l c d e w p v _ _ (λ a. a) (λ b. b) (λ b. refl) crosses_of;
+  under = λ t. only_band σ o l c d e w p v _ _ (approximation_by (rows_under t)) (band_by (rows_under t)) (λ b. refl) (crosses_under t);
+}
 
 same_end : {c d : Finished} → ends c ≡ ends d → c ≡ d
 same_end e = cc
-
-report_end : (f : Outcome Finished) → report_by (end_of f) ≡ report_from None f
-report_end (ends c) = refl
-report_end (refuses n i) = refl
 
 -- ---- one reply more
 
@@ -103,7 +106,7 @@ module _ (σ : Solver) (o : Opening) where
   -- no question is left
   record Rests (kept : Option Finished) (left : Run Finished) (list : List Requested) : Type 0 where
     pub hears : heard o (head left) ≡ None
-    pub finished : finished_by kept left ≡ cond (reports σ o o.requested) (end_of (fresh σ o list)) None
+    pub finished : finished_by kept left ≡ cond (reports σ o o.requested) (finished_from None (fresh σ o list)) None
     pub reported : reports σ o o.requested ≡ true → reports σ o list ≡ true
 
   abbrev Stands : Option Finished → Run Finished → List Requested → Option Question → ℕ → Where → Type 0
@@ -150,10 +153,10 @@ module _ (σ : Solver) (o : Opening) where
       record { hears = refl; finished = g.was_kept ∙ rw (g.reported, same); reported = λ b. ap is_report same }
 
   -- no question comes: what is said, and what stands, is the outcome
-  ends_so : (h : Host) (kept : Option Finished) (left : Run Finished) (f : Outcome Finished) (before : Option Report)
-      → play h left ≡ f → report_by kept ≡ before → heard o (head left) ≡ None → Ends f before (head left) (λ p. report_by (finished_by kept left) ≡ p)
-  ends_so h kept (done c) f before e k z = record { says = ap said_by e; reads = ap (report_from before) e }
-  ends_so h kept (refuse n i) f before e k z = record { says = ap said_by e; reads = k ∙ ap (report_from before) e }
+  ends_so : (h : Host) (kept : Option Finished) (left : Run Finished) (f : Outcome Finished) (before : Option Finished)
+      → play h left ≡ f → kept ≡ before → heard o (head left) ≡ None → Ends f before (head left) (λ p. finished_by kept left ≡ p)
+  ends_so h kept (done c) f before e k z = record { says = ap said_by e; reads = ap (finished_from before) e }
+  ends_so h kept (refuse n i) f before e k z = record { says = ap said_by e; reads = k ∙ ap (finished_from before) e }
   ends_so h kept (ask p w k) f before e l z = not_none z
 
   -- no question comes exactly where the play has put them all
@@ -163,16 +166,16 @@ module _ (σ : Solver) (o : Opening) where
   stops_so h (ask p w k) n all e = (λ z. not_none z, λ z. absurd (omega arith))
 
   -- an edit has ended: its finished run, the report that stands then, and what is new in it
-  abbrev Ended : Edit → Option Finished → Option Report → Said → Type 0
+  abbrev Ended : Edit → Option Finished → Option Finished → Said → Type 0
   Ended e kept stands said =
-      (was : Finished) × (new : Report) × (kept ≡ Some was) × (stands ≡ Some new)
-      × (said ≡ Said.report → BandAlone e (report_of was) new) × ((n i : ℕ) → said ≡ Said.refusal n i → new ≡ report_of was)
+      (was : Finished) × (new : Finished) × (kept ≡ Some was) × (stands ≡ Some new)
+      × (said ≡ Said.report → OnlyBandOf e was new) × ((n i : ℕ) → said ≡ Said.refusal n i → new ≡ was)
 
   changes_so : (e : Edit) (kept : Option Finished) (left : Run Finished) (list : List Requested) (m : ℕ) → EditGoes σ o e kept left list m
-      → heard o (head left) ≡ None → Ended e kept (report_by (finished_by kept left)) (head left)
+      → heard o (head left) ≡ None → Ended e kept (finished_by kept left) (head left)
   changes_so e kept (done d) list m g z =
-      (g.was, report_of d, g.was_kept, refl, λ r. only_band σ o list g.was d e g.before g.fits (sym g.plays), λ n i r. no_refusal r)
-  changes_so e kept (refuse n i) list m g z = (g.was, report_of g.was, g.was_kept, ap report_by g.was_kept, λ r. no_refusal (sym r), λ n i r. refl)
+      (g.was, d, g.was_kept, refl, λ r. only_band_of σ o list g.was d e g.before g.fits (sym g.plays), λ n i r. no_refusal r)
+  changes_so e kept (refuse n i) list m g z = (g.was, g.was, g.was_kept, g.was_kept, λ r. no_refusal (sym r), λ n i r. refl)
   changes_so e kept (ask p w k) list m g z = not_none z
 
   -- ---- at the opening
@@ -194,14 +197,10 @@ module _ (σ : Solver) (o : Opening) where
 
   reads_so : (kept : Option Finished) (left : Run Finished) (list : List Requested) (asked : Option Question) (m : ℕ) (at : Where)
       → Stands σ o kept left list asked m at
-      → report_by (finished_by kept left) ≡ cond (stands_by σ o at) (report_from None (fresh σ o list)) None
-  reads_so kept left list asked m (in_run n) s = ap report_by (open_none n kept left s.1.hears)
-  reads_so kept left list asked m idle s = ap report_by s.finished ∙ by (reports σ o o.requested)
-    where
-      by : (b : Bool) → report_by (cond b (end_of (fresh σ o list)) None) ≡ cond b (report_from None (fresh σ o list)) None
-      by true = report_end (fresh σ o list)
-      by false = refl
-  reads_so kept left list asked m (in_edit n e) s = ap report_by (open_none n kept left s.1.hears)
+      → finished_by kept left ≡ cond (stands_by σ o at) (finished_from None (fresh σ o list)) None
+  reads_so kept left list asked m (in_run n) s = open_none n kept left s.1.hears
+  reads_so kept left list asked m idle s = s.finished
+  reads_so kept left list asked m (in_edit n e) s = open_none n kept left s.1.hears
 
   reported_so : (kept : Option Finished) (left : Run Finished) (list : List Requested) (asked : Option Question) (m : ℕ) (at : Where)
       → Stands σ o kept left list asked m at
@@ -266,11 +265,11 @@ module _ (σ : Solver) (o : Opening) where
       ∙ ap (λ (q : Option Finished). taking_edit q e) (sym s.finished)
     where
       by : (b : Bool) → (b ≡ true → reports σ o list ≡ true) → (f : Outcome Finished) → fresh σ o list ≡ f
-          → cond b (cond (placed e (length list)) takes (declines 15)) (declines 14) ≡ taking_edit (cond b (end_of (fresh σ o list)) None) e
+          → cond b (cond (placed e (length list)) takes (declines 15)) (declines 14) ≡ taking_edit (cond b (finished_from None (fresh σ o list)) None) e
       by false h f q = refl
       by true h (ends c) q =
           let same : length list ≡ length c.requested = ap length (sym (list_kept σ o list c q).0) in
-          ap (λ (n : ℕ). cond (placed e n) takes (declines 15)) same ∙ ap (λ (f : Outcome Finished). taking_edit (end_of f) e) (sym q)
+          ap (λ (n : ℕ). cond (placed e n) takes (declines 15)) same ∙ ap (λ (f : Outcome Finished). taking_edit (finished_from None f) e) (sym q)
       by true h (refuses n i) q = not_both (sym (h refl) ∙ ap is_report q)
 
 -- ---- a call that is taken
@@ -411,15 +410,15 @@ agrees_first σ o = record {
 }
 
 -- the report that stands by the definition stands by the book
-pub stands_by_lem : (σ : Solver) (o : Opening) (t : At) (u : Trail) → Agrees σ o t u → report_by (finished_at o t) ≡ standing_report σ o u.book
+pub stands_by_lem : (σ : Solver) (o : Opening) (t : At) (u : Trail) → Agrees σ o t u → finished_at o t ≡ standing_run σ o u.book
 stands_by_lem σ o t u a = reads_so σ o (kept_by t.last) (rest_at o t) u.book.list u.asked u.replies u.book.at a.is
 
 pub opened_stops : (σ : Solver) (o : Opening) → (heard o (head (whole o)) ≡ None) ↔ (0 ≡ questions (host_of σ o) (whole o))
 opened_stops σ o = stops_so σ o (host_of σ o) (whole o) 0 _ (first_goes σ o).counted
 
 pub agrees_opened : (σ : Solver) (o : Opening)
-    → (heard o (head (whole o)) ≡ None → Ends (fresh σ o o.requested) None (head (whole o)) (λ p. report_by (finished_at o first) ≡ p))
-    × (report_by (finished_at o first) ≡ standing_report σ o (opened o (heard o (head (whole o)))))
+    → (heard o (head (whole o)) ≡ None → Ends (fresh σ o o.requested) None (head (whole o)) (λ p. finished_at o first ≡ p))
+    × (finished_at o first ≡ standing_run σ o (opened o (heard o (head (whole o)))))
 agrees_opened σ o = (
   ends_so σ o (host_of σ o) None (whole o) (fresh σ o o.requested) None (first_goes σ o).plays refl,
   stands_by_lem σ o first (begun o (head (whole o)))
@@ -459,13 +458,13 @@ module _ (σ : Solver) (o : Opening) (t : At) (u : Trail) (a : Agrees σ o t u) 
       → P (after_call o t x) (due_to o t x)
   as_taken P e h = subst (λ (y : Taking). P (place_by y) (said_to y)) (sym (sym (agrees_ruled σ o t u a x) ∙ e)) h
 
-  abbrev EndsSo : Outcome Finished → Option Report → At → Said → Type 0
-  EndsSo f before s said = heard o said ≡ None → Ends f before said (λ p. report_by (finished_at o s) ≡ p)
+  abbrev EndsSo : Outcome Finished → Option Finished → At → Said → Type 0
+  EndsSo f before s said = heard o said ≡ None → Ends f before said (λ p. finished_at o s ≡ p)
 
   abbrev StopsSo : ℕ → At → Said → Type 0
   StopsSo all s said = (heard o said ≡ None) ↔ (replies_with u.replies x ≡ all)
 
-  holds : Holds σ o u x (due_to o t x) (λ p. report_by (finished_at o (after_call o t x)) ≡ p)
+  holds : Holds σ o u x (due_to o t x) (λ p. finished_at o (after_call o t x) ≡ p)
   holds =
       let list = u.book.list in
       let kept = kept_by (after_taken o t x).last in
@@ -484,14 +483,14 @@ module _ (σ : Solver) (o : Opening) (t : At) (u : Trail) (a : Agrees σ o t u) 
         run_ends = λ n i e.
             let g = run_taken σ o t u a x q e n i in
             as_taken (EndsSo (fresh σ o o.requested) None) e
-            (ends_so σ o (host_of σ o) kept left (fresh σ o o.requested) None g.plays (ap report_by g.none_kept));
+            (ends_so σ o (host_of σ o) kept left (fresh σ o o.requested) None g.plays g.none_kept);
         edit_ends = λ f i e.
             let g = edit_taken_lem σ o t u a x q e f i in
-            let was = report_from None (fresh σ o list) in
+            let was = finished_from None (fresh σ o list) in
             as_taken (EndsSo (fresh σ o (edited f list)) was) e
             (ends_so σ o (host_of σ (with_list o list)) kept left (fresh σ o (edited f list)) was g.plays
-            (ap report_by g.was_kept ∙ ap (report_from None) (sym g.before)));
-        stands = stands_by_lem σ o (after_call o t x) then next ∙ ap (standing_report σ o) (sym b);
+            (g.was_kept ∙ ap (finished_from None) (sym g.before)));
+        stands = stands_by_lem σ o (after_call o t x) then next ∙ ap (standing_run σ o) (sym b);
         reported = λ h.
             let is : stands_by σ o then.book.at ≡ true = ap (λ (c : Book). stands_by σ o c.at) (sym b) ∙ h in
             ap (λ (c : Book). reports σ o c.list) b
@@ -504,13 +503,13 @@ pub agrees_next : (σ : Solver) (o : Opening) (t : At) (u : Trail) → Agrees σ
 agrees_next σ o t u a x q = next σ o t u a x q
 
 pub agrees_holds : (σ : Solver) (o : Opening) (t : At) (u : Trail) → Agrees σ o t u → (x : Call) → FromSolver σ o u x
-    → Holds σ o u x (due_to o t x) (λ p. report_by (finished_at o (after_call o t x)) ≡ p)
+    → Holds σ o u x (due_to o t x) (λ p. finished_at o (after_call o t x) ≡ p)
 agrees_holds σ o t u a x q = holds σ o t u a x q
 
 -- where an edit ends by the book's rules, what is new in the report that stands
 pub agrees_changes : (σ : Solver) (o : Opening) (t : At) (u : Trail) → Agrees σ o t u → (x : Call) → FromSolver σ o u x
     → (e : Edit) → Edits u.book x e → ruled σ o u.book x ≡ takes → heard o (due_to o t x) ≡ None
-    → Ended σ o e (kept_by (after_call o t x).last) (report_by (finished_at o (after_call o t x))) (due_to o t x)
+    → Ended σ o e (kept_by (after_call o t x).last) (finished_at o (after_call o t x)) (due_to o t x)
 agrees_changes σ o t u a x q e i r =
-    as_taken σ o t u a x q (λ s said. heard o said ≡ None → Ended σ o e (kept_by s.last) (report_by (finished_at o s)) said) r
+    as_taken σ o t u a x q (λ s said. heard o said ≡ None → Ended σ o e (kept_by s.last) (finished_at o s) said) r
     (changes_so σ o e (kept_by (after_taken o t x).last) (rest_at o (after_taken o t x)) u.book.list _ (edit_taken_lem σ o t u a x q r e i))

@@ -6,7 +6,9 @@ use Rattle.definition.specs.Run.{Run, done, refuse, ask, bind, Entry, Reply, ref
 use Rattle.definition.specs.Host.{questions}
 use Rattle.definition.specs.Likelihood as likelihood
 use Rattle.definition.specs.Fit as fit
-use Rattle.definition.specs.Summary.{Finished, Report, report_of}
+use Rattle.definition.specs.Summary.{Finished, Report}
+use Rattle.coverage.specs.Rows.{Table, rows_under}
+use Rattle.coverage.specs.Report.{band_by, CoveredReport}
 use Rattle.definition.specs.Whole.{Edit, put_in, take_out, exchange, placed, edit, whole, run, checked_measured, checked_requested}
 use Rattle.definition.specs.Laws.{Asks, put}
 use Rattle.definition.specs.declared.Point.{Point}
@@ -17,17 +19,23 @@ use Rattle.definition.specs.Session.{State, standing, Said, says_of, head, more_
 use Rattle.definition.specs.declared.Distances.{Distances}
 use Rattle.definition.specs.Session as meaning
 use Rattle.report.specs.Reading.{Shows, place_in, baseline_results, report_in}
+use Rattle.covered_report.specs.Reading.{covered_in, ShowsUnder}
+use Rattle.covered_report.proofs.Laws.{results_under, baseline_results_under, bands_under}
 use Rattle.editing.specs.Meaning.{state, seen}
 use Rattle.editing.specs.declared.Session.{Session}
 use Rattle.editing.specs.Meaning.{Answer}
-use Rattle.demands.specs.Calls.{Call, reply, refuse_point, change, resume, Editing, At, first, rest_by, rest_at, kept_by, finished_by, finished_at, report_by}
+use Rattle.demands.specs.Calls.{Call, reply, refuse_point, change, resume, Editing, At, first, rest_by, rest_at, kept_by, finished_by, finished_at}
+use Rattle.demands.specs.Calls.{report_by, covered_by}
 use Rattle.demands.specs.Calls.{Taking, declines, takes, taking_reply, taking_refusal, taking_edit, stance, with_reply, with_edit, after_taken, unless_declined}
 use Rattle.demands.specs.Calls.{after_call, due, due_to}
-use Rattle.demands.specs.Book.{heard, opened, Ends, standing_report as standsWith, Holds, Trail, begun, followed}
+use Rattle.demands.specs.Book.{heard, opened, Ends, standing_run as standsWith, Holds, Trail, begun, followed}
 use Rattle.demands.specs.Demands as stated
-use Rattle.demands.specs.Demands.{Made, Meets, Chained, Throughout, ReadsAs, checked, OpensProperly, counted_said, most_of, EndsProperly, Demand1}
+use Rattle.demands.specs.Demands.{Made, Meets, Chained, Throughout, ReadsPlain, ReadsUnder, ReadsAs, checked, OpensProperly, counted_said, most_of, EndsProperly, Demand1}
 use Rattle.demands.specs.Demands.{OpensAsDefined, AsDefined, Demand2, edited_from, next_trail, AllFrom, before_edit, Along}
 use Rattle.demands.specs.Demands.{Demand3}
+use Rattle.std.specs.Prelude.{option_map}
+use Rattle.bands.specs.Bands.{band_says}
+use Rattle.bands.specs.declared.TruingPredictiveBandV1.{TruingPredictiveBandV1}
 use Rattle.demands.specs.Example as example
 use Rattle.demands.specs.Standing.{IsNew, News, Inv}
 use Rattle.demands.proofs.Book.{rest_more, Agrees, agrees_first, agrees_ruled, agrees_next, agrees_holds, agrees_changes}
@@ -120,12 +128,29 @@ edit_asks o t x l mv bc list q =
 
 -- ---- the report
 
-reads_as : (s : Session) (p : Option Report) → report_in (state s) ≡ p → ReadsAs s p
-reads_as s p same = record {
+reads_plain : (s : Session) (p : Option Report) → report_in (state s) ≡ p → ReadsPlain s p
+reads_plain s p same = record {
   heads = λ r d. subst (Shows r) same d.is;
   results = λ i r d. d.is ∙ ap (place_in (λ q. q.observations) i) same;
   baseline_results = λ i r d. d.is ∙ ap (place_in baseline_results i) same;
   bands = λ i r d. d.is ∙ ap (place_in (λ q. q.bands) i) same;
+}
+
+-- of what a place gives, first its band and then that by its rows
+told_band : (t : Table) (r : Option TruingPredictiveBandV1)
+    → option_map (λ b. band_by (rows_under t) (band_says b)) r ≡ option_map (band_by (rows_under t)) (option_map band_says r)
+told_band t None = refl
+told_band t (Some b) = refl
+
+-- under a table the lists have the places that they have without one, each interval by its rows
+reads_under : (t : Table) (s : Session) (p : Option CoveredReport) → covered_in t (state s) ≡ p → ReadsUnder t s p
+reads_under t s p same = record {
+  heads = λ r d. subst (ShowsUnder t r) same d.is;
+  results = λ i r d. d.is ∙ results_under t i (state s) ∙ ap (place_in (λ q. q.observations) i) same;
+  baseline_results = λ i r d. d.is ∙ baseline_results_under t i (state s) ∙ ap (place_in baseline_results i) same;
+  bands = λ i r d.
+      told_band t r ∙ ap (option_map (band_by (rows_under t))) d.is ∙ bands_under t i (state s)
+      ∙ ap (place_in (λ q. q.bands) i) same;
 }
 
 pub report_after : (kept : Option Finished) (t : Run Finished) → report_in (meaning.after kept t) ≡ report_by (finished_by kept t)
@@ -134,10 +159,19 @@ report_after None (refuse n i) = refl
 report_after (Some c) (refuse n i) = refl
 report_after kept (ask p w k) = refl
 
+pub covered_after : (t : Table) (kept : Option Finished) (r : Run Finished) → covered_in t (meaning.after kept r) ≡ covered_by t (finished_by kept r)
+covered_after t kept (done c) = refl
+covered_after t None (refuse n i) = refl
+covered_after t (Some c) (refuse n i) = refl
+covered_after t kept (ask p w k) = refl
+
 -- ---- the invariant
 
-inv_reads : (o : Opening) (t : At) (s : Session) → Inv o t s → ReadsAs s (report_by (finished_at o t))
-inv_reads o t s h = reads_as s (report_by (finished_at o t)) (ap report_in h.leads ∙ report_after (kept_by t.last) (rest_at o t))
+inv_reads : (o : Opening) (t : At) (s : Session) → Inv o t s → ReadsAs s (finished_at o t)
+inv_reads o t s h = record {
+  plain = reads_plain s (report_by (finished_at o t)) (ap report_in h.leads ∙ report_after (kept_by t.last) (rest_at o t));
+  under = λ x. reads_under x s (covered_by x (finished_at o t)) (ap (covered_in x) h.leads ∙ covered_after x (kept_by t.last) (rest_at o t));
+}
 
 news_edit : (c : Finished) (e : Edit) → Asks IsNew 5 (edit c e)
 news_edit c e = asks_edit c e (every_new IsNew (λ p x. tt) e)
@@ -176,27 +210,27 @@ module _ (o : Opening) where
 
   -- an edit that is let through is of the finished run that stands
   edits_of : (t : At) (s : Session) → Inv o t s → (x : Call) (y : Editing) → stance o t x ≡ takes → x ≡ change y.made → (after_call o t x).last ≡ Some y
-      → ReadsAs s (Some (report_of y.of))
+      → ReadsAs s (Some y.of)
   edits_of t s h x y st ex el =
       by (finished_at o t) refl (subst (λ (z : Call). stance o t z ≡ takes) ex st) (subst (λ (z : Call). (after_call o t z).last ≡ Some y) ex el)
     where
       by : (f : Option Finished) → finished_at o t ≡ f → taking_edit f y.made ≡ takes
           → (unless_declined (taking_edit f y.made) t (with_edit t f y.made)).last ≡ Some y
-          → ReadsAs s (Some (report_of y.of))
+          → ReadsAs s (Some y.of)
       by None e st el = absurd (apart (sym st))
       by (Some c) e st el =
           let q : Some (record { of = c; made = y.made; replies = [] }) ≡ Some y = sym
           (ap (λ (z : Taking). (unless_declined z t (with_edit t (Some c) y.made)).last) st) ∙ el in
           let one : c ≡ y.of = ap (λ (z : Option Editing). of_or c z) q in
-          subst (λ (f : Finished). ReadsAs s (Some (report_of f))) one (subst (λ (f : Option Finished). ReadsAs s (report_by f)) e (inv_reads o t s h))
+          subst (λ (f : Finished). ReadsAs s (Some f)) one (subst (λ (f : Option Finished). ReadsAs s f) e (inv_reads o t s h))
 
   module _ (t : At) (s : Session) (h : Inv o t s) where
     -- a refused edit restores the report
-    restores : (v : At) (r : Session) → Inv o v r → (x : Editing) (n i : ℕ) → v.last ≡ Some x → rest_at o v ≡ refuse n i → ReadsAs r (Some (report_of x.of))
+    restores : (v : At) (r : Session) → Inv o v r → (x : Editing) (n i : ℕ) → v.last ≡ Some x → rest_at o v ≡ refuse n i → ReadsAs r (Some x.of)
     restores v r g x n i el er =
-        subst (λ (p : Option Report). ReadsAs r p)
-        (ap (λ (l : Option Editing). report_by (finished_by (kept_by l) (rest_at o v))) el
-        ∙ ap (λ (u : Run Finished). report_by (finished_by (Some x.of) u)) er) (inv_reads o v r g)
+        subst (λ (f : Option Finished). ReadsAs r f)
+        (ap (λ (l : Option Editing). finished_by (kept_by l) (rest_at o v)) el
+        ∙ ap (λ (u : Run Finished). finished_by (Some x.of) u) er) (inv_reads o v r g)
 
     -- declined: the answer is the number, and the session as it was
     no : (c : Made) (n : ℕ) → stance o t c.call ≡ declines n → Declines c.answer s n → Good o t s c
@@ -438,11 +472,11 @@ demand_2 o a m cs ch = (opens_as_defined o a m, walk_2 o first a cs (begins o a 
 
 module _ (σ : Solver) (o : Opening) where
   -- what holds of what is due holds of what was said, read as the session shows it
-  reads_end : (f : _) (before : Option Report) (x y : Said) (s : Session) (r : Option Report) → y ≡ x → ReadsAs s r → Ends f before x (λ p. r ≡ p)
+  reads_end : (f : _) (before : Option Finished) (x y : Said) (s : Session) (r : Option Finished) → y ≡ x → ReadsAs s r → Ends f before x (λ p. r ≡ p)
       → Ends f before y (ReadsAs s)
   reads_end f before x y s r e d h = record { says = e ∙ h.says; reads = subst (ReadsAs s) h.reads d }
 
-  holds_said : (u : Trail) (c : Made) (x : Said) (r : Option Report) → says_of c.answer.step ≡ x → ReadsAs c.answer.session r
+  holds_said : (u : Trail) (c : Made) (x : Said) (r : Option Finished) → says_of c.answer.step ≡ x → ReadsAs c.answer.session r
       → Holds σ o u c.call x (λ p. r ≡ p)
       → Holds σ o u c.call (says_of c.answer.step) (ReadsAs c.answer.session)
   holds_said u c x r e d h =
@@ -459,21 +493,21 @@ module _ (σ : Solver) (o : Opening) where
 
   -- the session that the last edit was made on reads as the finished run that the edit is of
   abbrev Before : At → Session → Type 0
-  Before t old = (x : Editing) → t.last ≡ Some x → ReadsAs old (Some (report_of x.of))
+  Before t old = (x : Editing) → t.last ≡ Some x → ReadsAs old (Some x.of)
 
   reply_before : (rs : List Reply) (last : Option Editing) (r : Reply) (old : Session) → Before (record { run = rs; last = last }) old
       → Before (with_reply rs last r) old
   reply_before rs None r old b x e = absurd (grind arith)
   reply_before rs (Some y) r old b x e =
       let same : y.of ≡ x.of = ap (λ (z : Option Editing). of_or y.of z) e in
-      subst (λ (c : Finished). ReadsAs old (Some (report_of c))) same (b y refl)
+      subst (λ (c : Finished). ReadsAs old (Some c)) same (b y refl)
 
   -- an edit is made on the session as it is
   edit_before : (t : At) (s : Session) → Inv o t s → (f : Edit) (q : Option Finished) → finished_at o t ≡ q → taking_edit q f ≡ takes → Before (with_edit t q f) s
   edit_before t s h f None e st = absurd (apart (sym st))
   edit_before t s h f (Some c) e st = λ x l.
       let same : c ≡ x.of = ap (λ (z : Option Editing). of_or c z) l in
-      subst (λ (d : Finished). ReadsAs s (Some (report_of d))) same (subst (λ (z : Option Finished). ReadsAs s (report_by z)) e (inv_reads o t s h))
+      subst (λ (d : Finished). ReadsAs s (Some d)) same (subst (λ (z : Option Finished). ReadsAs s z) e (inv_reads o t s h))
 
   taken_before : (t : At) (old s : Session) → Inv o t s → Before t old → (x : Call) → stance o t x ≡ takes → Before (after_taken o t x) (edited_from old s x)
   taken_before t old s h b (reply es) e = reply_before t.run t.last _ old b
@@ -489,10 +523,10 @@ module _ (σ : Solver) (o : Opening) where
       by (declines n) e = b
       by takes e = taken_before t old s h b x e
 
-  kept_before : (s : Session) (was : Finished) (l : Option Editing) → ((x : Editing) → l ≡ Some x → ReadsAs s (Some (report_of x.of))) → kept_by l ≡ Some was
-      → ReadsAs s (Some (report_of was))
+  kept_before : (s : Session) (was : Finished) (l : Option Editing) → ((x : Editing) → l ≡ Some x → ReadsAs s (Some x.of)) → kept_by l ≡ Some was
+      → ReadsAs s (Some was)
   kept_before s was None b e = absurd (grind arith)
-  kept_before s was (Some x) b e = let same : x.of ≡ was = cc in subst (λ (c : Finished). ReadsAs s (Some (report_of c))) same (b x refl)
+  kept_before s was (Some x) b e = let same : x.of ≡ was = cc in subst (λ (c : Finished). ReadsAs s (Some c)) same (b x refl)
 
   walk_3 : (t : At) (u : Trail) (old : Session) (a : Answer) (cs : List Made) → Inv o t a.session → Agrees σ o t u → Before t old → Chained a cs
       → AllFrom σ o u cs
@@ -504,12 +538,12 @@ module _ (σ : Solver) (o : Opening) where
       let now = next_before t u old a.session c.call h g b in (
         record {
           declined = λ n e. k.proper.declined n (sym (agrees_ruled σ o t u g c.call) ∙ e);
-          holds = holds_said u c (due_to o t c.call) (report_by (finished_at o (after_call o t c.call))) says k.defined.reads
+          holds = holds_said u c (due_to o t c.call) (finished_at o (after_call o t c.call)) says k.defined.reads
               (agrees_holds σ o t u g c.call f.0);
           changes = λ e i r z.
               let x = agrees_changes σ o t u g c.call f.0 e i r (ap (heard o) (sym says) ∙ z) in
               record {
-                old = report_of x.0;
+                old = x.0;
                 new = x.1;
                 reads_old = kept_before (before_edit σ o u old a.session c.call) x.0 (after_call o t c.call).last now x.2;
                 reads_new = subst (ReadsAs c.answer.session) x.3 k.defined.reads;

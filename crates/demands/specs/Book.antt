@@ -3,7 +3,7 @@ use Rattle.std.specs.Prelude.{ℕ, suc, ◌≡◌, Bool, true, false, cond, List
 use Rattle.definition.specs.Request.{Requested, Opening}
 use Rattle.definition.specs.Run.{Entry, Reply, refused, entries}
 use Rattle.definition.specs.Host.{Outcome, ends, refuses, questions}
-use Rattle.definition.specs.Summary.{Finished, Report, report_of, ranges_of}
+use Rattle.definition.specs.Summary.{Finished, ranges_of}
 use Rattle.definition.specs.Whole.{Edit, put_in, take_out, exchange, edited, placed, edit, whole}
 use Rattle.definition.specs.declared.Point.{Point}
 use Rattle.fresh_outcome.specs.Solver.{Solver, reply_at, distances_of, host_of, with_list, fresh}
@@ -169,15 +169,15 @@ abbrev pub said_by : Outcome Finished → Said
 said_by (ends c) = Said.report
 said_by (refuses n i) = Said.refusal n i
 
--- the report once it is told: a refusal leaves the one before
-abbrev pub report_from : Option Report → Outcome Finished → Option Report
-report_from before (ends c) = Some (report_of c)
-report_from before (refuses n i) = before
+-- the finished run whose report is read once it is told: a refusal leaves the one before
+abbrev pub finished_from : Option Finished → Outcome Finished → Option Finished
+finished_from before (ends c) = Some c
+finished_from before (refuses n i) = before
 
 -- what was said is this outcome, and so is what is read then
-pub record Ends (f : Outcome Finished) (before : Option Report) (said : Said) (Reads : Option Report → Type 0) : Type 0 where
+pub record Ends (f : Outcome Finished) (before : Option Finished) (said : Said) (Reads : Option Finished → Type 0) : Type 0 where
   pub says : said ≡ said_by f
-  pub reads : Reads (report_from before f)
+  pub reads : Reads (finished_from before f)
 
 -- the edit that a call makes, or goes on with
 abbrev pub Edits : Book → Call → Edit → Type 0
@@ -186,12 +186,12 @@ Edits b refuse_point e = (n : ℕ) × (b.at ≡ in_edit n e)
 Edits b (change f) e = f ≡ e
 
 module _ (σ : Solver) (o : Opening) where
-  -- the report that stands, by the book
-  abbrev pub standing_report : Book → Option Report
-  standing_report b = cond (stands_by σ o b.at) (report_from None (fresh σ o b.list)) None
+  -- the finished run whose report stands, by the book
+  abbrev pub standing_run : Book → Option Finished
+  standing_run b = cond (stands_by σ o b.at) (finished_from None (fresh σ o b.list)) None
 
   -- where a call found this trail, this was said to it, and this is what is read then
-  pub record Holds (u : Trail) (x : Call) (said : Said) (Reads : Option Report → Type 0) : Type 0 where
+  pub record Holds (u : Trail) (x : Call) (said : Said) (Reads : Option Finished → Type 0) : Type 0 where
     -- the run does end: with the reply to the last question that the definition's play of it puts, and with no other
     pub run_stops : (n : ℕ) → u.book.at ≡ in_run n → ruled σ o u.book x ≡ takes
         → (heard o said ≡ None) ↔ (replies_with u.replies x ≡ questions (host_of σ o) (whole o))
@@ -202,7 +202,7 @@ module _ (σ : Solver) (o : Opening) where
     pub run_ends : (n : ℕ) → u.book.at ≡ in_run n → ruled σ o u.book x ≡ takes → heard o said ≡ None → Ends (fresh σ o o.requested) None said Reads
     -- an edit ends in the fresh outcome of the edited list, and a refused one restores the report of the list as it was
     pub edit_ends : (e : Edit) → Edits u.book x e → ruled σ o u.book x ≡ takes → heard o said ≡ None
-        → Ends (fresh σ o (edited e u.book.list)) (report_from None (fresh σ o u.book.list)) said Reads
+        → Ends (fresh σ o (edited e u.book.list)) (finished_from None (fresh σ o u.book.list)) said Reads
     -- a report that stands is that of a fresh run with the book's list
-    pub stands : Reads (standing_report (booked σ o u.book x (heard o said)))
+    pub stands : Reads (standing_run (booked σ o u.book x (heard o said)))
     pub reported : stands_by σ o (booked σ o u.book x (heard o said)).at ≡ true → reports σ o (booked σ o u.book x (heard o said)).list ≡ true

@@ -4,9 +4,11 @@ use Rattle.std.specs.Prelude.{ℕ, suc, ◌≤◌, ◌<◌, ◌≡◌, List, [],
 use Rattle.definition.specs.Request.{Opening}
 use Rattle.definition.specs.Run.{Run, done, refuse, bind}
 use Rattle.definition.specs.Host.{questions}
-use Rattle.definition.specs.Summary.{Report, report_of}
+use Rattle.definition.specs.Summary.{Finished, Report, report_of}
 use Rattle.definition.specs.Whole.{Edit, put_in, take_out, exchange, whole, checked_measured, checked_requested}
 use Rattle.definition.specs.Laws.{put}
+use Rattle.coverage.specs.Rows.{Table, rows_under}
+use Rattle.coverage.specs.Report.{band_by, CoveredReport, report_under}
 use Rattle.fresh_outcome.specs.Solver.{Solver, host_of, fresh, BandAlone}
 use Rattle.definition.specs.Session.{Said, says_of, head, Opened, Replied, PointRefused, Edited}
 use Rattle.definition.specs.declared.Distances.{Distances}
@@ -16,11 +18,12 @@ use Rattle.bands.specs.Bands.{band_says}
 use Rattle.bands.specs.declared.TruingPredictiveBandV1.{TruingPredictiveBandV1}
 use Rattle.editing.specs.Meaning.{state, seen}
 use Rattle.report.specs.Reading.{Shows, place_in, baseline_results, ReportRead, ResultRead, BaselineResultRead, BandRead}
+use Rattle.covered_report.specs.Reading.{ShowsUnder, ReportReadUnder}
 use Rattle.editing.specs.declared.Session.{Session}
 use Rattle.editing.specs.Meaning.{Answer}
-use Rattle.demands.specs.Calls.{Call, reply, refuse_point, change, Editing, At, first, rest_at, finished_at, report_by, declines, takes, stance}
-use Rattle.demands.specs.Calls.{unless_declined, after_call, due_to}
-use Rattle.demands.specs.Book.{heard, opened, ruled, Ends, Edits, standing_report, Holds, Trail, begun, followed, FromSolver}
+use Rattle.demands.specs.Calls.{Call, reply, refuse_point, change, Editing, At, first, rest_at, finished_at, report_by, covered_by, declines, takes}
+use Rattle.demands.specs.Calls.{stance, unless_declined, after_call, due_to}
+use Rattle.demands.specs.Book.{heard, opened, ruled, Ends, Edits, standing_run, Holds, Trail, begun, followed, FromSolver}
 
 -- ---- the calls of a host
 
@@ -49,12 +52,25 @@ abbrev pub Whatever : (Opening → Answer → Type 0) → (Opening → At → Se
 Whatever First P = (o : Opening) (a : Answer) → Opened seen o (says_of a.step) a.session → (cs : List Made) → Chained a cs
     → First o a × Throughout (P o) o first a.session cs
 
--- what the calls that read this session give is this report, in its head and in each place of its lists, or that there is none
-pub record ReadsAs (s : Session) (p : Option Report) : Type 0 where
+-- what the calls that read this session give without a table is this report, in its head and in each place of its lists, or that there is none
+pub record ReadsPlain (s : Session) (p : Option Report) : Type 0 where
   pub heads : (r : Option UncertaintyTruingReportV1) → ReportRead (state s) r → Shows r p
   pub results : (i : ℕ) (r : Option WeightedTruingObservationResultV1) → ResultRead (state s) i r → r ≡ place_in (λ q. q.observations) i p
   pub baseline_results : (i : ℕ) (r : Option WeightedTruingObservationResultV1) → BaselineResultRead (state s) i r → r ≡ place_in baseline_results i p
   pub bands : (i : ℕ) (r : Option TruingPredictiveBandV1) → BandRead (state s) i r → option_map band_says r ≡ place_in (λ q. q.bands) i p
+
+-- under a table it is this report, in which each interval that they give stands by its rows
+pub record ReadsUnder (t : Table) (s : Session) (p : Option CoveredReport) : Type 0 where
+  pub heads : (r : Option UncertaintyTruingReportV1) → ReportReadUnder t (state s) r → ShowsUnder t r p
+  pub results : (i : ℕ) (r : Option WeightedTruingObservationResultV1) → ResultRead (state s) i r → r ≡ place_in (λ q. q.observations) i p
+  pub baseline_results : (i : ℕ) (r : Option WeightedTruingObservationResultV1) → BaselineResultRead (state s) i r → r ≡ place_in baseline_results i p
+  pub bands : (i : ℕ) (r : Option TruingPredictiveBandV1) → BandRead (state s) i r
+      → option_map (λ b. band_by (rows_under t) (band_says b)) r ≡ place_in (λ q. q.bands) i p
+
+-- what is read is the report of this finished run, without a table and under every one; or that there is none
+pub record ReadsAs (s : Session) (c : Option Finished) : Type 0 where
+  pub plain : ReadsPlain s (report_by c)
+  pub under : (t : Table) → ReadsUnder t s (covered_by t c)
 
 -- what the call that reads the count of questions gives
 abbrev pub count : Session → ℕ
@@ -94,9 +110,9 @@ pub record EndsProperly (o : Opening) (t : At) (s : Session) (c : Made) : Type 0
       → says_of c.answer.step ≡ Said.question mv bc list → length x.replies < most_of x.made
   -- an edit that is let through is of the report that stands, and one that ends in a refusal restores it
   pub edits : (x : Editing) → stance o t c.call ≡ takes → c.call ≡ change x.made → (after_call o t c.call).last ≡ Some x
-      → ReadsAs s (Some (report_of x.of))
+      → ReadsAs s (Some x.of)
   pub restored : (x : Editing) (n i : ℕ) → (after_call o t c.call).last ≡ Some x → rest_at o (after_call o t c.call) ≡ refuse n i
-      → ReadsAs c.answer.session (Some (report_of x.of))
+      → ReadsAs c.answer.session (Some x.of)
 
 -- Theorem `demand_1`.
 abbrev pub Demand1 : Type 0
@@ -107,13 +123,13 @@ Demand1 = Whatever OpensProperly EndsProperly
 pub record OpensAsDefined (o : Opening) (a : Answer) : Type 0 where
   pub says : says_of a.step ≡ head (whole o)
   pub counts : count a.session ≡ put (whole o) []
-  pub reads : ReadsAs a.session (report_by (finished_at o first))
+  pub reads : ReadsAs a.session (finished_at o first)
 
 -- what is said, the number of questions that the run has put, and the report
 pub record AsDefined (o : Opening) (t : At) (s : Session) (c : Made) : Type 0 where
   pub says : says_of c.answer.step ≡ due_to o t c.call
   pub counts : count c.answer.session ≡ put (whole o) (after_call o t c.call).run
-  pub reads : ReadsAs c.answer.session (report_by (finished_at o (after_call o t c.call)))
+  pub reads : ReadsAs c.answer.session (finished_at o (after_call o t c.call))
 
 -- Theorem `demand_2`.
 abbrev pub Demand2 : Type 0
@@ -121,14 +137,19 @@ Demand2 = Whatever OpensAsDefined AsDefined
 
 -- ---- demand 3: the run and each edit end as a fresh run does, whatever pointwise solver the taken replies come from
 
+-- only the band concerned and the outside-domain warning change, in the reports without a table and under every one
+pub record OnlyBandOf (e : Edit) (before after : Finished) : Type 0 where
+  pub plain : BandAlone e (report_of before) (report_of after)
+  pub under : (t : Table) → BandAlone e (report_under t before) (report_under t after)
+
 -- an edit has ended, and this was said: what is read on the session that it was made on, and what is read then
 pub record Changes (e : Edit) (before : Session) (said : Said) (after_call : Session) : Type 0 where
-  pub old : Report
-  pub new : Report
+  pub old : Finished
+  pub new : Finished
   pub reads_old : ReadsAs before (Some old)
   pub reads_new : ReadsAs after_call (Some new)
   -- only the band concerned and the outside-domain warning change
-  pub made : said ≡ Said.report → BandAlone e old new
+  pub made : said ≡ Said.report → OnlyBandOf e old new
   -- a refused edit changes nothing
   pub refused : (n i : ℕ) → said ≡ Said.refusal n i → new ≡ old
 
@@ -152,7 +173,7 @@ module _ (σ : Solver) (o : Opening) where
   pub record OpensFresh (a : Answer) : Type 0 where
     pub stops : (heard o (says_of a.step) ≡ None) ↔ (0 ≡ questions (host_of σ o) (whole o))
     pub ends : heard o (says_of a.step) ≡ None → Ends (fresh σ o o.requested) None (says_of a.step) (ReadsAs a.session)
-    pub stands : ReadsAs a.session (standing_report σ o (opened o (heard o (says_of a.step))))
+    pub stands : ReadsAs a.session (standing_run σ o (opened o (heard o (says_of a.step))))
 
   pub record EndsFresh (u : Trail) (before s : Session) (c : Made) : Type 0 where
     -- where the book's rules place 8, 9, 14 and 15, they come and change nothing

@@ -8,10 +8,13 @@ ghost use Rattle.definition.specs.Whole as Edit;
 ghost use Rattle.editing.specs.Meaning.{state, seen};
 ghost use Rattle.definition.specs.Session.{says_of, Opened};
 ghost use Rattle.report.specs.Reading.{ReportRead, ResultRead, BaselineResultRead, BandRead};
+ghost use Rattle.coverage.specs.Table.{rows_in};
+ghost use Rattle.covered_report.specs.Reading.{ReportReadUnder};
 ghost use Rattle.demands.specs.Calls as Call;
 ghost use Rattle.demands.specs.Demands.{Meets, count};
 
 use bands::TruingPredictiveBandV1;
+use coverage::Table;
 use definition::{
     TruingPredictionRequestV1, UncertaintyTruingRequestV1, WeightedTruingObservationResultV1,
 };
@@ -68,6 +71,12 @@ pub fn report(s: Session) -> Option<UncertaintyTruingReportV1>
     ensures { ReportRead (state s) result }
 {
     editing::report(s)
+}
+
+pub fn report_under(s: Session, table: &Table) -> Option<UncertaintyTruingReportV1>
+    ensures { ReportReadUnder (rows_in table.now) (state s) result }
+{
+    covered_report::report(s, table)
 }
 
 pub fn observation_result(s: Session, i: usize) -> Option<WeightedTruingObservationResultV1>

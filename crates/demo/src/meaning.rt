@@ -1,6 +1,7 @@
 // What an answer means, in plain words.
 use crate::say;
 use bands::TruingPredictiveBandV1;
+use coverage::Table;
 use definition::{
     Refusal, RefusalCode, Step, TruingApproximationFailureCodeV1, TruingApproximationV1,
     TruingMapConvergenceCriterionV1, TruingUncertaintyWarningCodeV1,
@@ -17,7 +18,7 @@ use warnings::{CODES, Warnings};
 // A page has fewer bytes than there are here.
 fn say_page(rt: &HostRuntime, s: Session) -> io::Result<()> {
     let mut out = [0u8; 16384];
-    let end = page::put_page(&mut out, 0, s);
+    let end = page::put_page(&mut out, 0, s, &Table::single());
     say::first(rt, &out, end)
 }
 

@@ -1,6 +1,7 @@
 // Lines of the protocol (docs/PROTOCOL.md).
 use crate::lot::Lot;
 use crate::{lot, say};
+use coverage::Table;
 use editing::Answer;
 use std::io;
 
@@ -58,8 +59,8 @@ pub fn say_reply(rt: &HostRuntime, entries: &[Option<f64>]) -> io::Result<()> {
 
 // A question, the report or a refusal. The report has fewer bytes than there are here.
 pub fn say_answer(rt: &HostRuntime, a: Answer) -> io::Result<()> {
-    let mut out = [0u8; 32768];
-    let end = answer_text::put_answer(&mut out, 0, a);
+    let mut out = [0u8; 131072];
+    let end = answer_text::put_answer(&mut out, 0, a, &Table::single());
     say::first(rt, &out, end)?;
     say::text(rt, b"\n")
 }

@@ -3,7 +3,7 @@ use Prim.Native.Nat.{◌-◌}
 use mathlib.Core.Path.{◌≡◌, refl, sym, ap, ◌∙◌, subst₂}
 use mathlib.Core.Bool.{Bool, true, false, cond, not, ◌||◌}
 use mathlib.Core.List.{List, [], ◌∷◌, map, map-map}
-use lib.ListN.{set}
+use lib.ListN.{length, set}
 use lib.Seq.{map-set}
 use lib.Ieee.{Float, lt}
 use Rattle.numeric.specs.Numeric.{finite}
@@ -12,8 +12,8 @@ use Rattle.definition.specs.Lists.{any, insert_at, remove_at, zip_with}
 use Rattle.definition.specs.Request.{Requested, Measured, Opening}
 use Rattle.definition.specs.Likelihood.{Rows, row_of, rows_of, evaluation_of}
 use Rattle.definition.specs.Fit.{Fit}
-use Rattle.definition.specs.Summary.{converged, Approximation, approximation_of, Diagnostics, Band, band_of, is_outside, dominated_of, crosses_bounds_of, is_mesh}
-use Rattle.definition.specs.Summary.{where_available, is_unavailable, at_most_one, warn, warnings_of, Finished, report_of}
+use Rattle.definition.specs.Summary.{converged, Approximation, approximation_of, Diagnostics, diagnostics_of, BandWith, Band, band_of, is_outside, dominated_of}
+use Rattle.definition.specs.Summary.{is_mesh, where_available, is_unavailable, at_most_one, warn, warnings_with, warned_by, ReportWith, Finished, report_with}
 use Rattle.definition.specs.Whole.{Edit, put_in, take_out, exchange, edited}
 use Rattle.definition.specs.declared.Point.{Point}
 use Rattle.definition.specs.declared.Row.{Row}
@@ -27,28 +27,34 @@ use Rattle.fresh_outcome.proofs.Runs.{finished_at, came, again_ends}
 
 -- ---- the bands are a map over the requested distances
 
-module _ (σ : Solver) (a : Approximation) (p : Point) where
+module _ {I : Type 0} (tell : Band → BandWith I) (kept : (b : Band) → (tell b).range ≡ b.range) (σ : Solver) (a : Approximation) (p : Point) where
   abbrev row_at : Float → Row
   row_at d = row_of (drop_at σ p d) (mv_slope_at σ p d) (bc_slope_at σ p d)
 
-  abbrev band_at : Requested → Band
-  band_at d = band_of a d (row_at d.range_yd)
+  abbrev told_at : Requested → Row → BandWith I
+  told_at d r = tell (band_of a d r)
 
-  abbrev bands_of : List Requested → List Band
-  bands_of l = zip_with (band_of a) l (rows_of (rows_with σ p (distances_of l) 0))
+  abbrev band_at : Requested → BandWith I
+  band_at d = told_at d (row_at d.range_yd)
+
+  abbrev bands_of : List Requested → List (BandWith I)
+  bands_of l = zip_with told_at l (rows_of (rows_with σ p (distances_of l) 0))
 
   bands_over : (l : List Requested) → bands_of l ≡ map band_at l
   bands_over l =
-      ap (zip_with (band_of a) l) (zip3_maps row_of (drop_at σ p) (mv_slope_at σ p) (bc_slope_at σ p) (distances_of l) ∙ map-map row_at (λ d. d.range_yd) l)
-      ∙ zip_map (band_of a) (λ d. row_at d.range_yd) l
+      ap (zip_with told_at l) (zip3_maps row_of (drop_at σ p) (mv_slope_at σ p) (bc_slope_at σ p) (distances_of l) ∙ map-map row_at (λ d. d.range_yd) l)
+      ∙ zip_map told_at (λ d. row_at d.range_yd) l
+
+  range_at : (d : Requested) → (band_at d).range ≡ d.range_yd
+  unfolding band_of
+  range_at d = kept (band_of a d (row_at d.range_yd))
 
   bands_edited : (l : List Requested) (e : Edit) → BandEdited e (bands_of l) (bands_of (edited e l))
-  unfolding band_of
   bands_edited l (put_in i d) =
-      (band_at d, refl, bands_over (insert_at (i - 1) d l) ∙ map_insert band_at d l (i - 1) ∙ ap (insert_at (i - 1) (band_at d)) (sym (bands_over l)))
+      (band_at d, range_at d, bands_over (insert_at (i - 1) d l) ∙ map_insert band_at d l (i - 1) ∙ ap (insert_at (i - 1) (band_at d)) (sym (bands_over l)))
   bands_edited l (take_out i) = bands_over (remove_at (i - 1) l) ∙ map_remove band_at l (i - 1) ∙ ap (remove_at (i - 1)) (sym (bands_over l))
   bands_edited l (exchange i d) =
-      (band_at d, refl, bands_over (set l (i - 1) d) ∙ map-set band_at l (i - 1) d ∙ ap (λ (bs : List Band). set bs (i - 1) (band_at d)) (sym (bands_over l)))
+      (band_at d, range_at d, bands_over (set l (i - 1) d) ∙ map-set band_at l (i - 1) d ∙ ap (λ (bs : List (BandWith I)). set bs (i - 1) (band_at d)) (sym (bands_over l)))
 
 -- ---- the warnings
 
@@ -82,8 +88,8 @@ without_domain true = refl
 without_domain false = refl
 
 -- the nine that do not look at the requested distances
-abbrev nine : Measured → Fit → Evaluation → Approximation → Diagnostics → List Tested
-nine m f e a d =
+abbrev nine : Bool → Measured → Fit → Evaluation → Approximation → Diagnostics → List Tested
+nine crosses m f e a d =
     tested (not (converged f.convergence)) Warning.OptimizerDidNotConverge
     ∷ tested (is_mesh f.convergence) Warning.ObjectiveMeshConvergence
     ∷ tested (lt e.bc_sensitivity_ratio least_sensitivity_ratio) Warning.WeakBcSensitivity
@@ -91,43 +97,47 @@ nine m f e a d =
     ∷ tested (where_available (λ g. dominated_of m.priors.muzzle_velocity_fps g.covariance.mv_variance_fps2) a) Warning.MvPriorDominated
     ∷ tested (where_available (λ g. dominated_of m.priors.ballistic_coefficient g.covariance.bc_variance) a) Warning.BcPriorDominated
     ∷ tested (is_unavailable a) Warning.GaussianApproximationUnavailable
-    ∷ tested (where_available (λ g. crosses_bounds_of g.muzzle_velocity_interval_95 g.ballistic_coefficient_interval_95) a)
-    Warning.IntervalCrossesFitBounds
+    ∷ tested crosses Warning.IntervalCrossesFitBounds
     ∷ tested (at_most_one d.effective_degrees_of_freedom) Warning.LowEffectiveDegreesOfFreedom
     ∷ []
 
-warnings_same : (m : Measured) (f : Fit) (e : Evaluation) (a : Approximation) (d : Diagnostics) (l k : List Requested)
-    → without (warnings_of m f e a d k) ≡ without (warnings_of m f e a d l)
-unfolding warnings_of
-warnings_same m f e a d l k =
+warnings_same : (crosses : Bool) (m : Measured) (f : Fit) (e : Evaluation) (a : Approximation) (d : Diagnostics) (l k : List Requested)
+    → without (warnings_with crosses m f e a d k) ≡ without (warnings_with crosses m f e a d l)
+warnings_same crosses m f e a d l k =
     let x = any (is_outside m.observations) k in
     let y = any (is_outside m.observations) l in
-    without_warned (nine m f e a d) (domain x) (domain y) (without_domain x ∙ sym (without_domain y))
+    without_warned (nine crosses m f e a d) (domain x) (domain y) (without_domain x ∙ sym (without_domain y))
 
 -- ---- the theorem
 
-alone : (σ : Solver) (o : Opening) (l : List Requested) (f : Fit) (rows : Rows) (e : Edit)
-    → BandAlone e (report_of (finished_at σ o l f rows)) (report_of (finished_at σ o (edited e l) f rows))
-unfolding report_of
-alone σ o l f rows e =
-    record {
-      schema_version = refl;
-      point = refl;
-      iterations = refl;
-      is_converged = refl;
-      priors = refl;
-      observations = refl;
-      baseline = refl;
-      diagnostics = refl;
-      approximation = refl;
-      bands =
-          bands_edited σ (approximation_of (converged f.convergence) f.point (evaluation_of o.measured f.point rows).posterior_information)
-          f.point l e;
-      warnings = warnings_same o.measured f (evaluation_of o.measured f.point rows) _ _ l (edited e l);
-    }
+module _
+    {A I : Type 0} (approximation : Approximation → A) (tell : Band → BandWith I) (kept : (b : Band) → (tell b).range ≡ b.range)
+    (crosses : Approximation → Bool) where
+  abbrev told : Finished → ReportWith A I
+  told c = report_with approximation tell (warned_by crosses) c
+
+  alone : (σ : Solver) (o : Opening) (l : List Requested) (f : Fit) (rows : Rows) (e : Edit)
+      → BandAlone e (told (finished_at σ o l f rows)) (told (finished_at σ o (edited e l) f rows))
+  alone σ o l f rows e =
+      let x = evaluation_of o.measured f.point rows in
+      let a = approximation_of (converged f.convergence) f.point x.posterior_information in
+      record {
+        schema_version = refl;
+        point = refl;
+        iterations = refl;
+        is_converged = refl;
+        priors = refl;
+        observations = refl;
+        baseline = refl;
+        diagnostics = refl;
+        approximation = refl;
+        bands = bands_edited tell kept σ a f.point l e;
+        warnings = warnings_same (crosses a) o.measured f x a (diagnostics_of (length o.measured.observations) f x a) l (edited e l);
+      }
 
 pub only_band : OnlyBand
-only_band σ o l c d e w p v =
+only_band σ o l c d e w p v A I approximation tell kept crosses =
     let x = came σ o l c w in
-    subst₂ (λ (a b : Finished). BandAlone e (report_of a) (report_of b)) (sym x.is) (sym (again_ends σ o l c x (edited e l) d v))
-    (alone σ o l x.fit x.rows e)
+    subst₂ (λ (a b : Finished). BandAlone e (told approximation tell kept crosses a) (told approximation tell kept crosses b)) (sym x.is)
+    (sym (again_ends σ o l c x (edited e l) d v))
+    (alone approximation tell kept crosses σ o l x.fit x.rows e)

@@ -6,7 +6,7 @@ use Rattle.definition.specs.Lists.{insert_at, remove_at}
 use Rattle.definition.specs.Request.{Requested, Opening}
 use Rattle.definition.specs.Run.{Entry, Reply, refused, entries, shots, distances, new}
 use Rattle.definition.specs.Host.{Outcome, ends, Host, play}
-use Rattle.definition.specs.Summary.{Finished, Band, Report, report_of, ranges_of}
+use Rattle.definition.specs.Summary.{Approximation, Finished, BandWith, Band, ReportWith, warned_by, report_with, ranges_of}
 use Rattle.definition.specs.Whole.{whole, Edit, put_in, take_out, exchange, edited, placed, edit}
 use Rattle.definition.specs.declared.Point.{Point}
 use Rattle.definition.specs.declared.TruingUncertaintyWarningCodeV1.TheVariants as Warning
@@ -81,13 +81,13 @@ without [] = []
 without (code ∷ codes) = cond (is_domain code) (without codes) (code ∷ without codes)
 
 -- the bands before and after: one, of the new distance, is put in at the place, or stands there for the old one; or the one there is taken out
-abbrev pub BandEdited : Edit → List Band → List Band → Type 0
-BandEdited (put_in i d) before after = (band : Band) × (band.range ≡ d.range_yd) × (after ≡ insert_at (i - 1) band before)
-BandEdited (take_out i) before after = after ≡ remove_at (i - 1) before
-BandEdited (exchange i d) before after = (band : Band) × (band.range ≡ d.range_yd) × (after ≡ set before (i - 1) band)
+abbrev pub BandEdited : {I : Type 0} → Edit → List (BandWith I) → List (BandWith I) → Type 0
+BandEdited {I} (put_in i d) before after = (band : BandWith I) × (band.range ≡ d.range_yd) × (after ≡ insert_at (i - 1) band before)
+BandEdited {I} (take_out i) before after = after ≡ remove_at (i - 1) before
+BandEdited {I} (exchange i d) before after = (band : BandWith I) × (band.range ≡ d.range_yd) × (after ≡ set before (i - 1) band)
 
--- everything else is the same
-pub record BandAlone (e : Edit) (before after : Report) : Type 0 where
+-- everything else is the same; A: what the approximation is told by, I: what an interval is
+pub record BandAlone {A I : Type 0} (e : Edit) (before after : ReportWith A I) : Type 0 where
   pub schema_version : after.schema_version ≡ before.schema_version
   pub point : after.point ≡ before.point
   pub iterations : after.iterations ≡ before.iterations
@@ -101,9 +101,11 @@ pub record BandAlone (e : Edit) (before after : Report) : Type 0 where
   pub warnings : without after.warnings ≡ without before.warnings
 
 -- Theorem `only_band`: between the reports of a list and of the edited list only the band at the place, and the warning about the requested distances, can
--- differ.
-abbrev pub OnlyBand : Type 0
+-- differ; in whatever way a report tells its approximation and its bands, whose ranges stay, and judges the crossing.
+abbrev pub OnlyBand : Type 1
 OnlyBand =
     (σ : Solver) (o : Opening) (l : List Requested) (c d : Finished) (e : Edit) → fresh σ o l ≡ ends c → placed e (length l) ≡ true
     → fresh σ o (edited e l) ≡ ends d
-    → BandAlone e (report_of c) (report_of d)
+    → (A I : Type 0) (approximation : Approximation → A) (tell : Band → BandWith I) → ((b : Band) → (tell b).range ≡ b.range)
+    → (crosses : Approximation → Bool)
+    → BandAlone e (report_with approximation tell (warned_by crosses) c) (report_with approximation tell (warned_by crosses) d)

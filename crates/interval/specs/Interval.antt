@@ -1,5 +1,5 @@
 -- S13: `GaussianIntervalV1::from_variance`.
-use Rattle.std.specs.Prelude.{cond, not, Float, Option, None, Some}
+use Rattle.std.specs.Prelude.{◌≡◌, cond, not, Float, Option, None, Some, option_map}
 use Rattle.std.specs.Float.{binary64}
 use Rattle.std.specs.Float.Ieee.{add, sub, mul, lt, of_bits}
 use Rattle.root.specs.Root.{root_of}
@@ -22,12 +22,15 @@ unfoldable pub classification_of : Float → Float → Classification
 classification_of estimate variance =
     cond (not (finite estimate)) estimate_not_finite (cond (not (finite variance)) variance_not_finite (cond (lt variance zero64) variance_negative sound))
 
--- an interval exactly where the classification is sound: the standard deviation is the root of the variance, and the half width the factor times that
-unfoldable pub interval_where : Classification → Float → Float → Float → Float → Option GaussianIntervalV1
-interval_where sound level factor estimate variance =
-    let deviation = root_of variance in
+-- the interval about an estimate with this standard deviation, at a level: the half width is the level's factor times the deviation
+abbrev pub gaussian_of : Float → Float → Float → Float → GaussianIntervalV1
+gaussian_of level factor estimate deviation =
     let half = mul binary64 factor deviation in
-    Some (record { estimate = estimate; standard_deviation = deviation; lower = sub binary64 estimate half; upper = add binary64 estimate half; probability = level })
+    record { estimate = estimate; standard_deviation = deviation; lower = sub binary64 estimate half; upper = add binary64 estimate half; probability = level }
+
+-- an interval exactly where the classification is sound: the standard deviation is the root of the variance
+unfoldable pub interval_where : Classification → Float → Float → Float → Float → Option GaussianIntervalV1
+interval_where sound level factor estimate variance = Some (gaussian_of level factor estimate (root_of variance))
 interval_where estimate_not_finite level factor estimate variance = None
 interval_where variance_not_finite level factor estimate variance = None
 interval_where variance_negative level factor estimate variance = None
@@ -35,3 +38,12 @@ interval_where variance_negative level factor estimate variance = None
 -- the interval of an estimate and a variance, at a level and its factor
 unfoldable pub interval_of : Float → Float → Float → Float → Option GaussianIntervalV1
 interval_of level factor estimate variance = interval_where (classification_of estimate variance) level factor estimate variance
+
+-- L2: the same estimate and standard deviation at another level
+unfoldable pub at_level : Float → Float → GaussianIntervalV1 → GaussianIntervalV1
+at_level level factor g = gaussian_of level factor g.estimate g.standard_deviation
+
+-- Theorem `drawn`: an interval taken to a level is the one that its estimate and its variance have there.
+abbrev pub Drawn : Type 0
+Drawn = (level factor other its estimate variance : Float)
+    → interval_of level factor estimate variance ≡ option_map (at_level level factor) (interval_of other its estimate variance)

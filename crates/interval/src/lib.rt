@@ -2,7 +2,7 @@
 #![tactic(auto)]
 
 ghost use Rattle.std.specs.Prelude.{◌≡◌};
-ghost use Rattle.interval.specs.Interval.{level95, factor95, interval_of};
+ghost use Rattle.interval.specs.Interval.{level95, factor95, interval_of, at_level};
 
 #[derive(Clone, Copy, PartialEq)]
 pub struct GaussianIntervalV1 {
@@ -41,5 +41,19 @@ impl GaussianIntervalV1 {
             upper: estimate + half_width,
             probability: GaussianIntervalV1::LEVEL,
         })
+    }
+
+    // The same estimate and standard deviation at another level.
+    #[tactic(auto, unfolding(crate::specs::Interval::at_level))]
+    pub fn at(self, level: f64, factor: f64) -> GaussianIntervalV1
+        ensures { result ≡ at_level level factor self }
+    {
+        let half_width = factor * self.standard_deviation;
+        GaussianIntervalV1 {
+            lower: self.estimate - half_width,
+            upper: self.estimate + half_width,
+            probability: level,
+            ..self
+        }
     }
 }

@@ -5,12 +5,16 @@ use Prim.Native.String.{String}
 use mathlib.Core.Path.{◌≡◌, refl}
 use mathlib.Core.Bool.{true, false}
 use mathlib.Core.List.{List, [], ◌∷◌, ◌++◌, map}
-use lib.Ieee.{Float, binary64, of_bits}
-use Rattle.definition.specs.Summary.{Report, unavailable}
+use lib.Ieee.{Float, binary64, of_bits, add, sub, mul}
+use Rattle.interval.specs.Interval.{at_level}
+use Rattle.interval.specs.declared.GaussianIntervalV1.{GaussianIntervalV1}
+use Rattle.definition.specs.Summary.{Approximation, available, Band}
 use Rattle.definition.specs.declared.TruingApproximationFailureCodeV1.TheVariants as Failure
 use Rattle.definition.specs.declared.TruingMapConvergenceCriterionV1.TheVariants as Criterion
 use Rattle.definition.specs.declared.TruingUncertaintyWarningCodeV1.TheVariants as Warning
 use Rattle.definition.specs.declared.WeightedTruingObservationResultV1.{WeightedTruingObservationResultV1}
+use Rattle.coverage.specs.Rows.{Table, rows_under}
+use Rattle.coverage.specs.Report.{withheld, approximation_by, band_by, CoveredReport}
 use Rattle.report.specs.Report.{Results}
 use Rattle.numerals.specs.Numbers.{glyph_of, count_text}
 use Rattle.words.specs.Words.{bytes}
@@ -137,7 +141,7 @@ bench_results =
     ∷ result 0x4069000000000000 0x4026000000000000 0x3ff0000000000000 0x4024000000000000 0xbff0000000000000 0xbff0000000000000
     ∷ []
 
-bench : Report
+bench : CoveredReport
 bench = record {
   schema_version = 1;
   point = record { mv = bits 0x409f400000000000; bc = bits 0x3fd3333333333333 };
@@ -166,7 +170,7 @@ bench = record {
     objective_poll_improvement = None;
     objective_poll_evaluations = 0;
   };
-  approximation = unavailable Failure.RankDeficientInformation;
+  approximation = withheld Failure.RankDeficientInformation;
   bands =
       record { range = bits 0x4062c00000000000; predicted_drop = bits 0x4024000000000000; latent = None; future = None }
       ∷ record { range = bits 0x4064000000000000; predicted_drop = bits 0x4024000000000000; latent = None; future = None }
@@ -204,7 +208,7 @@ odd_results =
     ∷ result 0x7e37e43c8800759c 0x3fb0000000000000 0x3ff0000000000000 0x7ff0000000000000 0x0000000000000000 0x0000000000000000
     ∷ []
 
-odd : Report
+odd : CoveredReport
 odd = record {
   schema_version = 1;
   point = record { mv = bits 0x7ff8000000000000; bc = bits 0x3fb0000000000000 };
@@ -228,9 +232,8 @@ odd = record {
     objective_poll_improvement = None;
     objective_poll_evaluations = 1024;
   };
-  approximation = unavailable Failure.OptimizerDidNotConverge;
-  bands =
-      [];
+  approximation = withheld Failure.OptimizerDidNotConverge;
+  bands = [];
   warnings = Warning.OptimizerDidNotConverge ∷ Warning.WeakBcSensitivity ∷ Warning.IllConditionedData ∷ Warning.GaussianApproximationUnavailable ∷ [];
 }
 
@@ -252,3 +255,55 @@ odd_shown : page_lines odd ≡ odd_page
 unfolding odd odd_results odd_page page_lines speed_line coefficient_line chi_square_line shot_line band_line warning_line phrase_text row_text cell_text shown_text
     number_text shown_of shown_at count_text glyph_of of_bits
 odd_shown = refl
+
+-- ---- under two rows: the ends are those of the second
+
+two_rows : Table
+two_rows =
+    record { level = bits 0x3feccccccccccccd; factor = bits 0x3ffa515209676abf }
+    ∷ record { level = bits 0x3fefae147ae147ae; factor = bits 0x40049b4c64d69161 }
+    ∷ []
+
+-- an interval whose own ends are those of no row
+interval : ℕ → ℕ → GaussianIntervalV1
+interval estimate deviation =
+    record { estimate = bits estimate; standard_deviation = bits deviation; lower = bits 0; upper = bits 0; probability = bits 0x3fee666666666666 }
+
+drawn : Approximation
+drawn =
+    available
+    (record {
+      covariance = record { mv_variance_fps2 = bits 0x4030000000000000; mv_bc_covariance_fps = bits 0; bc_variance = bits 0x3f1a36e2eb1c432d };
+      muzzle_velocity_interval_95 = interval 0x40a5180000000000 0x4010000000000000;
+      ballistic_coefficient_interval_95 = interval 0x3fd3333333333333 0x3f847ae147ae147b;
+      mv_bc_correlation = bits 0;
+      scaled_information_condition_number = bits 0x3ff0000000000000;
+    })
+    (record { a00 = bits 0x3ff0000000000000; a01 = bits 0; a11 = bits 0x3ff0000000000000 })
+
+banded : Band
+banded = record {
+  range = bits 0x4062c00000000000;
+  predicted_drop = bits 0x4024000000000000;
+  latent = Some (interval 0x4024000000000000 0x3ff0000000000000);
+  future = None;
+}
+
+under_two_rows : List Text
+under_two_rows =
+    speed_line (bits 0x40a5180000000000) (approximation_by (rows_under two_rows) drawn)
+    ∷ coefficient_line (bits 0x3fd3333333333333) (approximation_by (rows_under two_rows) drawn)
+    ∷ band_line (band_by (rows_under two_rows) banded)
+    ∷ []
+
+second_page : List Text
+second_page =
+    line "speed                     2700.000      2689.697      2710.303  "
+    ∷ line "coefficient                  0.300         0.274         0.326  "
+    ∷ line "distance                    10.000         7.424        12.576  "
+    ∷ []
+
+second_shown : under_two_rows ≡ second_page
+unfolding two_rows interval drawn banded under_two_rows second_page rows_under at_level add sub mul speed_line coefficient_line band_line row_text cell_text shown_text number_text
+    shown_of shown_at count_text glyph_of of_bits
+second_shown = refl

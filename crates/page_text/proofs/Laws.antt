@@ -1,19 +1,26 @@
--- How the parts make the page: a number's columns, a line, the warnings, the lists between the parts.
-use Rattle.std.specs.Prelude.{count_by}
-use Prim.Native.Nat.{ℕ, zero, suc, ◌+◌, ◌-◌, ◌/◌, ◌%◌, ◌≤◌}
+-- How the parts make the page: a number's columns, an interval's last row, a line, the warnings, the lists between the parts.
+use Rattle.std.specs.Prelude.{count_by, Option, None, Some, option_map}
+use Rattle.std.proofs.lemmas.Option.{slice_get-map, slice_get-get_or}
+use Prim.Native.Nat.{ℕ, zero, suc, ◌+◌, ◌-◌, ◌/◌, ◌%◌, ◌≤◌, ◌<◌}
 use mathlib.Core.Path.{◌≡◌, refl, sym, ap, ◌∙◌}
 use mathlib.Core.Bool.{Bool, true, false, cond}
 use mathlib.Core.List.{List, [], ◌∷◌, ◌++◌, map, append_assoc}
 use native.Mathlib.Omega.{arith}
 use mir.Val.{bool_byte}
 use lib.ListN.{length, take, length-append, length-map}
-use Rattle.definition.specs.Summary.{warn, Band, Report}
+use Rattle.interval.specs.declared.GaussianIntervalV1.{GaussianIntervalV1}
+use Rattle.definition.specs.Summary.{warn}
 use Rattle.definition.specs.declared.TruingUncertaintyWarningCodeV1.{TruingUncertaintyWarningCodeV1}
 use Rattle.definition.specs.Meaning.{approximation_says}
+use Rattle.coverage.specs.Rows.{Table, built_in_row, last_row, at_row, rows_under}
+use Rattle.coverage.specs.Report.{approximation_by, CoveredBand, CoveredReport}
+use Rattle.coverage.specs.Table.{rows_in}
+use Rattle.coverage.specs.declared.Table as coverage
+use Rattle.coverage.proofs.TableRows.{rows_least}
 use Rattle.warnings.specs.Warnings.{codes, codes_of, stands_in}
 use Rattle.warnings.specs.declared.Warnings.{Warnings}
 use Rattle.warnings.specs.declared.TheConstants.{CODES}
-use Rattle.report.specs.Report.{Results, seen_of}
+use Rattle.report.specs.Report.{Results, seen_with}
 use Rattle.report.specs.declared.UncertaintyTruingReportV1.{UncertaintyTruingReportV1}
 use Rattle.report_text.specs.Writing.{Text}
 use Rattle.report_text.specs.Writer.{Held, put}
@@ -23,7 +30,7 @@ use Rattle.page_text.specs.Columns.{blanks, right_aligned, sign_text, three_text
 use Rattle.numerals.specs.Numbers.{count_text}
 use Rattle.page_text.proofs.Lengths.{fixed_length}
 use Rattle.page_text.specs.declared.Cell.{Cell}
-use Rattle.page_text.specs.Page.{speed_line, coefficient_line, chi_square_line, shot_line, band_line, warning_line, page_lines, joined_lines, page_text}
+use Rattle.page_text.specs.Page.{shown_row, speed_line, coefficient_line, chi_square_line, shot_line, band_line, warning_line, page_lines, joined_lines, page_text}
 use Rattle.page_text.specs.Pieces.{head_text}
 
 -- the first n of some blanks
@@ -46,6 +53,19 @@ fixed_put minus q {sign} {room} {whole} h e s f =
     rw (first_blanks room 14 l, e, n)
     (simp (put_put, append_assoc))
 
+-- of an interval under a table the page shows the last row
+last_row_shown : (t : Table) (g : GaussianIntervalV1) → 1 ≤ length t → shown_row (Some (rows_under t g)) ≡ Some (at_row g (last_row t))
+unfolding rows_under
+last_row_shown t g h =
+    let inside : length t - 1 < length t = omega arith in
+    rw (length-map t (at_row g), slice_get-map (at_row g) t (length t - 1), slice_get-get_or t (length t - 1) built_in_row inside)
+
+-- every table of the code has a row
+pub last_shown : (t : coverage.Table) (i : Option GaussianIntervalV1)
+    → shown_row (option_map (rows_under (rows_in t)) i) ≡ option_map (λ g. at_row g (last_row (rows_in t))) i
+last_shown t None = refl
+last_shown t (Some g) = last_row_shown (rows_in t) g (rows_least t)
+
 -- a line is its parts
 pub row_put : (label : Text) (a b c : Cell) (h : Held)
     → put (32 ∷ 32 ∷ 10 ∷ []) (put (cell_text c) (put (cell_text b) (put (cell_text a) (put label h)))) ≡ put (row_text label a b c) h
@@ -53,12 +73,13 @@ unfolding row_text
 row_put label a b c h = simp (put_put, append_assoc)
 
 -- the lines before the lists
-pub head_put : (r : UncertaintyTruingReportV1) (h : Held)
-    → put (chi_square_line r.diagnostics.chi_square) (put (coefficient_line r.map_ballistic_coefficient (approximation_says r.approximation))
-    (put (speed_line r.map_muzzle_velocity_fps (approximation_says r.approximation)) h))
-    ≡ put (head_text r) h
+pub head_put : (t : Table) (r : UncertaintyTruingReportV1) (h : Held)
+    → put (chi_square_line r.diagnostics.chi_square)
+    (put (coefficient_line r.map_ballistic_coefficient (approximation_by (rows_under t) (approximation_says r.approximation)))
+    (put (speed_line r.map_muzzle_velocity_fps (approximation_by (rows_under t) (approximation_says r.approximation))) h))
+    ≡ put (head_text t r) h
 unfolding head_text
-head_put r h = simp (put_put, append_assoc)
+head_put t r h = simp (put_put, append_assoc)
 
 -- lines with nothing between two
 nothing_between : (ts : List Text) → after_each [] ts ≡ joined_lines ts
@@ -101,19 +122,19 @@ joined_append [] l = refl
 joined_append (t ∷ k) l = ap (λ (s : Text). t ++ s) (joined_append k l) ∙ sym (append_assoc t (joined_lines k) (joined_lines l))
 
 -- the parts, with the lists between them, are the page
-pub page_parts : (h : UncertaintyTruingReportV1) (results entered : Results) (bands : List Band)
-    → head_text h
+pub page_parts : (t : Table) (h : UncertaintyTruingReportV1) (results entered : Results) (bands : List CoveredBand)
+    → head_text t h
     ++ (joined_lines (map shot_line results) ++ (joined_lines (map band_line bands) ++ joined_lines (map warning_line (codes_of h.warnings))))
-    ≡ page_text (seen_of h results entered bands)
+    ≡ page_text (seen_with (approximation_by (rows_under t)) h results entered bands)
 unfolding head_text page_lines page_text
-page_parts h results entered bands =
+page_parts t h results entered bands =
     let lists : joined_lines (map shot_line results ++ (map band_line bands ++ map warning_line (codes_of h.warnings)))
     ≡ joined_lines (map shot_line results) ++ (joined_lines (map band_line bands) ++ joined_lines (map warning_line (codes_of h.warnings))) =
     joined_append (map shot_line results) (map band_line bands ++ map warning_line (codes_of h.warnings))
     ∙ ap (λ (t : Text). joined_lines (map shot_line results) ++ t) (joined_append (map band_line bands) (map warning_line (codes_of h.warnings))) in
     rw (lists, append_assoc, append_assoc)
 
-pub lines_count : (p : Report) → length (page_lines p) ≡ 3 + length p.observations + length p.bands + length p.warnings
+pub lines_count : (p : CoveredReport) → length (page_lines p) ≡ 3 + length p.observations + length p.bands + length p.warnings
 unfolding page_lines
 lines_count p =
     omega (

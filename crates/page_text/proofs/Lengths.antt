@@ -9,9 +9,9 @@ use borrow.Author.Tests.{ltb-true, ltb-false}
 use lib.Dec.{ltb}
 use lib.ListN.{length, take, length-append, length-replicate, length-take}
 use lib.Ieee.{Float, nan, inf, fin}
-use Rattle.definition.specs.Summary.{Approximation, Band, Report}
 use Rattle.definition.specs.declared.TruingUncertaintyWarningCodeV1.{TruingUncertaintyWarningCodeV1}
 use Rattle.definition.specs.declared.WeightedTruingObservationResultV1.{WeightedTruingObservationResultV1}
+use Rattle.coverage.specs.Report.{CoveredApproximation, CoveredBand, CoveredReport}
 use Rattle.numerals.specs.Numbers.{places_of, count_text}
 use Rattle.numerals.proofs.Numbers.{text_length}
 use Rattle.words.specs.Words.{bytes}
@@ -106,11 +106,11 @@ line_columns label a b c h = record {
       );
 }
 
-speed_columns : (x : Float) (a : Approximation) → Line (speed_line x a)
+speed_columns : (x : Float) (a : CoveredApproximation) → Line (speed_line x a)
 unfolding speed_line
 speed_columns x a = line_columns (bytes "speed") _ _ _ (omega arith)
 
-coefficient_columns : (x : Float) (a : Approximation) → Line (coefficient_line x a)
+coefficient_columns : (x : Float) (a : CoveredApproximation) → Line (coefficient_line x a)
 unfolding coefficient_line
 coefficient_columns x a = line_columns (bytes "coefficient") _ _ _ (omega arith)
 
@@ -122,7 +122,7 @@ shot_columns : (o : WeightedTruingObservationResultV1) → Line (shot_line o)
 unfolding shot_line
 shot_columns o = line_columns (bytes "shot") _ _ _ (omega arith)
 
-band_columns : (b : Band) → Line (band_line b)
+band_columns : (b : CoveredBand) → Line (band_line b)
 unfolding band_line
 band_columns b = line_columns (bytes "distance") _ _ _ (omega arith)
 
@@ -172,5 +172,5 @@ lines_length (t ∷ l) h =
       mul-suc 65 (length l),
     )
 
-pub page_length : (p : Report) → length (joined_lines (page_lines p)) ≡ 65 * length (page_lines p)
+pub page_length : (p : CoveredReport) → length (joined_lines (page_lines p)) ≡ 65 * length (page_lines p)
 page_length p = lines_length (page_lines p) (sixty_four p)

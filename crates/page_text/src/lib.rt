@@ -1,19 +1,23 @@
-// The lines of the page for the counter.
+// The lines of the page for the counter. An interval shows the last row of the coverage table.
 #![tactic(auto)]
 
-ghost use Rattle.std.specs.Prelude.{◌≡◌, ◌++◌, map, ◌+◌, ◌<◌, length, count_by};
+ghost use Rattle.std.specs.Prelude.{◌≡◌, ◌++◌, map, ◌+◌, ◌<◌, length, count_by, option_map};
 ghost use Rattle.interval.specs.declared.GaussianIntervalV1.{GaussianIntervalV1};
 ghost use Rattle.definition.specs.Meaning.{approximation_says};
+ghost use Rattle.coverage.specs.Rows.{rows_under};
+ghost use Rattle.coverage.specs.Report.{approximation_by, band_by};
+ghost use Rattle.coverage.specs.Table.{rows_in};
 ghost use Rattle.bands.specs.Bands.{band_says};
 ghost use Rattle.warnings.specs.Warnings.{codes_of, stands_in};
 ghost use Rattle.report_text.specs.Writing.{Writes};
 ghost use Rattle.report_text.specs.Writer.{Wrote};
 ghost use Rattle.report_text.specs.Lists.{warning_at};
 ghost use Rattle.page_text.specs.Columns.{right_aligned, sign_text, fixed_text, shown_text, number_text, cell_text, row_text};
-ghost use Rattle.page_text.specs.Page.{ends_of, speed_interval, coefficient_interval, shot_line, band_line, phrase_text, warning_line, joined_lines};
+ghost use Rattle.page_text.specs.Page.{shown_row, ends_of, speed_interval, coefficient_interval, shot_line, band_line, phrase_text, warning_line, joined_lines};
 ghost use Rattle.page_text.specs.Pieces.{head_text};
 
 use bands::TruingPredictiveBandV1;
+use coverage::Table;
 use definition::{
     TruingApproximationV1, TruingUncertaintyWarningCodeV1, WeightedTruingObservationResultV1,
 };
@@ -33,7 +37,7 @@ pub enum Cell {
     Number(f64),
 }
 
-// The ends of an interval.
+// The ends of an interval's row.
 #[derive(Clone, Copy)]
 pub struct Ends {
     pub lower: Cell,
@@ -142,7 +146,16 @@ fn put_row(w: &mut Writer<'_>, label: &[u8], a: Cell, b: Cell, c: Cell)
     w.put_bytes(b"  \n");
 }
 
-// A value with the ends of its interval.
+// The row of an interval that the page uses: the last.
+#[tactic(auto, using(crate::proofs::Laws::last_shown))]
+fn shown(i: Option<GaussianIntervalV1>, table: &Table) -> Option<GaussianIntervalV1>
+    ensures { result ≡ shown_row (option_map (rows_under (rows_in table.now)) i) }
+{
+    let row = table.last();
+    i.map(|g| row.interval(g))
+}
+
+// A value with the ends of its interval's row.
 fn put_with_ends(w: &mut Writer<'_>, label: &[u8], x: f64, i: Option<GaussianIntervalV1>)
     ensures { Wrote w.old w.new (row_text label.now (Cell.Number x) (ends_of i).lower (ends_of i).upper) }
 {
@@ -150,14 +163,18 @@ fn put_with_ends(w: &mut Writer<'_>, label: &[u8], x: f64, i: Option<GaussianInt
     put_row(w, label, Cell::Number(x), lower, upper);
 }
 
-// Those of the speed and of the coefficient.
-fn intervals(a: TruingApproximationV1) -> (Option<GaussianIntervalV1>, Option<GaussianIntervalV1>)
-    ensures { (result.0 ≡ speed_interval (approximation_says a)) × (result.1 ≡ coefficient_interval (approximation_says a)) }
+// Those of the speed's interval and of the coefficient's.
+fn intervals(
+    a: TruingApproximationV1,
+    table: &Table,
+) -> (Option<GaussianIntervalV1>, Option<GaussianIntervalV1>)
+    ensures speed { result.0 ≡ shown_row (speed_interval (approximation_by (rows_under (rows_in table.now)) (approximation_says a))) }
+    ensures coefficient { result.1 ≡ shown_row (coefficient_interval (approximation_by (rows_under (rows_in table.now)) (approximation_says a))) }
 {
     match a {
         Ok((g, _)) => (
-            Some(g.muzzle_velocity_interval_95),
-            Some(g.ballistic_coefficient_interval_95),
+            shown(Some(g.muzzle_velocity_interval_95), table),
+            shown(Some(g.ballistic_coefficient_interval_95), table),
         ),
         Err(_) => (None, None),
     }
@@ -165,10 +182,10 @@ fn intervals(a: TruingApproximationV1) -> (Option<GaussianIntervalV1>, Option<Ga
 
 // The lines before those of the observations: speed, coefficient, chi-square.
 #[tactic(auto, using(crate::proofs::Laws::head_put), unfolding(crate::specs::Page::speed_line, crate::specs::Page::coefficient_line, crate::specs::Page::chi_square_line))]
-pub fn put_head(w: &mut Writer<'_>, h: UncertaintyTruingReportV1)
-    ensures { Wrote w.old w.new (head_text h) }
+pub fn put_head(w: &mut Writer<'_>, h: UncertaintyTruingReportV1, table: &Table)
+    ensures { Wrote w.old w.new (head_text (rows_in table.now) h) }
 {
-    let (speed, coefficient) = intervals(h.approximation);
+    let (speed, coefficient) = intervals(h.approximation, table);
     put_with_ends(w, b"speed               ", h.map_muzzle_velocity_fps, speed);
     put_with_ends(
         w,
@@ -205,20 +222,23 @@ impl Text for Shot {
     }
 }
 
-// The line of a predictive band.
+// The line of a predictive band under a table.
 #[derive(Clone, Copy)]
-pub struct Band(pub TruingPredictiveBandV1);
+pub struct Band<'a> {
+    pub band: TruingPredictiveBandV1,
+    pub table: &'a Table,
+}
 
-impl Text for Band {
-    ghost text = { λ b. band_line (band_says b.0) };
+impl Text for Band<'_> {
+    ghost text = { λ b. band_line (band_by (rows_under (rows_in b.table.now)) (band_says b.band)) };
 
     #[tactic(auto, unfolding(crate::specs::Page::band_line))]
     fn put(&self, w: &mut Writer<'_>) {
         put_with_ends(
             w,
             b"distance            ",
-            self.0.predicted_drop,
-            self.0.latent_interval_95,
+            self.band.predicted_drop,
+            shown(self.band.latent_interval_95, self.table),
         );
     }
 }

@@ -3,7 +3,7 @@ use Rattle.std.specs.Prelude.{ℕ, ◌≡◌, Bool, List, length, Option, None, 
 use Rattle.definition.specs.Lists.{any, zip_with}
 use Rattle.definition.specs.Likelihood.{rows_of}
 use Rattle.definition.specs.Summary as summary
-use Rattle.definition.specs.Summary.{Band, Finished, Report, results_of, is_outside, band_of, report_of}
+use Rattle.definition.specs.Summary.{Approximation, BandWith, Band, Finished, ReportWith, Report, results_of, is_outside, band_of, report_of}
 use Rattle.definition.specs.Meaning.{approximation_says}
 use Rattle.definition.specs.declared.TruingPriorsV1.{TruingPriorsV1}
 use Rattle.definition.specs.declared.WeightedTruingObservationResultV1.{WeightedTruingObservationResultV1}
@@ -23,9 +23,9 @@ baseline_says None results = None
 baseline_says (Some b) results =
     Some (record { entered = record { mv = b.muzzle_velocity_fps; bc = b.ballistic_coefficient }; chi_square = b.chi_square; observations = results })
 
--- a report from its head, the observation results, those of the baseline, and the bands
-abbrev pub seen_of : UncertaintyTruingReportV1 → Results → Results → List Band → Report
-seen_of r results entered bands = record {
+-- a report from its head, the observation results, those of the baseline, and the bands, by how its approximation is told
+abbrev pub seen_with : {A I : Type 0} → (Approximation → A) → UncertaintyTruingReportV1 → Results → Results → List (BandWith I) → ReportWith A I
+seen_with approximation r results entered bands = record {
   schema_version = r.schema_version;
   point = record { mv = r.map_muzzle_velocity_fps; bc = r.map_ballistic_coefficient };
   iterations = r.iterations;
@@ -34,10 +34,13 @@ seen_of r results entered bands = record {
   observations = results;
   baseline = baseline_says r.baseline entered;
   diagnostics = diagnostics_says r.diagnostics;
-  approximation = approximation_says r.approximation;
+  approximation = approximation (approximation_says r.approximation);
   bands = bands;
   warnings = codes_of r.warnings;
 }
+
+abbrev pub seen_of : UncertaintyTruingReportV1 → Results → Results → List Band → Report
+seen_of r results entered bands = seen_with (λ a. a) r results entered bands
 
 -- what a head is made of are the parts of this finished run, the baseline with these results
 pub record PartsOf (c : Finished) (n wanted : ℕ) (g : Progress) (priors : TruingPriorsV1) (baseline : Option TruingBaselineV1) (entered : Results)

@@ -1,18 +1,24 @@
--- How long the texts of the answers are: that of a report with at most 64 observations, 64 bands and 10 warnings has at most 28200 bytes.
-use Rattle.std.specs.Prelude.{Option, None, Some}
+-- How long the texts of the answers are: that of a report with at most 64 observations, 64 bands, 10 warnings and 8 rows an interval has at most 108700 bytes.
+use Rattle.std.specs.Prelude.{Option, None, Some, option_map}
 use Prim.Native.Nat.{ℕ, zero, suc, ◌+◌, ◌*◌, ◌/◌, ◌%◌, ◌≤◌}
 use mathlib.Core.Path.{◌≡◌, refl}
-use mathlib.Core.Bool.{Bool, true, false, cond}
+use mathlib.Core.Bool.{Bool, true, false, cond, not, ◌||◌}
 use mathlib.Core.List.{List, [], ◌∷◌, ◌++◌, map}
 use native.Mathlib.Nat.{mul-suc}
 use native.Mathlib.Omega.{arith}
 use lib.Dec.{ltb}
-use lib.ListN.{length, length-append}
-use lib.Ieee.{Float, binary64, to_bits}
+use lib.ListN.{length, length-append, length-map}
+use lib.Ieee.{Float, lt, binary64, to_bits}
+use Rattle.numeric.specs.Numeric.{finite}
 use Rattle.interval.specs.declared.GaussianIntervalV1.{GaussianIntervalV1}
+use Rattle.definition.specs.Constants.{least_sensitivity_ratio, largest_condition}
+use Rattle.definition.specs.Lists.{any}
 use Rattle.definition.specs.Request.{Requested, Measured}
 use Rattle.definition.specs.Fit.{Fit}
-use Rattle.definition.specs.Summary.{Approximation, available, unavailable, Diagnostics, Band, Baseline, Report, warn, warnings_of}
+use Rattle.definition.specs.Summary.{Approximation, available, unavailable, Diagnostics, Band, Baseline, converged, is_mesh, where_available, dominated_of}
+use Rattle.definition.specs.Summary.{is_unavailable, at_most_one, is_outside, warn, warnings_with}
+use Rattle.coverage.specs.Rows.{Table, at_row, rows_under}
+use Rattle.coverage.specs.Report.{approximation_by, band_by, IntervalRows, CoveredApproximation, told, withheld, CoveredBand, CoveredReport}
 use Rattle.definition.specs.declared.Evaluation.{Evaluation}
 use Rattle.definition.specs.declared.NormalPriorV1.{NormalPriorV1}
 use Rattle.definition.specs.declared.TruingPriorsV1.{TruingPriorsV1}
@@ -24,8 +30,7 @@ use Rattle.definition.specs.declared.TruingApproximationFailureCodeV1.{TruingApp
 use Rattle.definition.specs.declared.TruingApproximationFailureCodeV1.TheVariants as Failure
 use Rattle.definition.specs.declared.TruingUncertaintyWarningCodeV1.{TruingUncertaintyWarningCodeV1}
 use Rattle.definition.specs.declared.TruingUncertaintyWarningCodeV1.TheVariants as Warning
-use Rattle.warnings.specs.Warnings.{codes, warnings_by}
-use Rattle.warnings.proofs.Laws.{warnings_by_lem}
+use Rattle.warnings.specs.Warnings.{codes}
 use Rattle.report.specs.Report.{Results}
 use Rattle.numerals.specs.Numbers.{glyph_of, digits_of, places_of, double_text, count_text}
 use Rattle.words.specs.Words.{bytes}
@@ -42,6 +47,7 @@ use Rattle.report_text.specs.Texts.{
   failure_name,
   warning_name,
   gaussian_text,
+  rows_text,
   interval_text,
   normal_text,
   prior_text,
@@ -129,9 +135,29 @@ gaussian_length g =
       double_length g.probability,
     ))
 
-interval_length : (i : Option GaussianIntervalV1) → length (interval_text i) ≤ 87
-interval_length None = omega arith
-interval_length (Some g) = gaussian_length g
+-- eight rows take 88 bytes each and two brackets
+rows_length : (rows : IntervalRows) → length rows ≤ 8 → length (rows_text rows) ≤ 706
+unfolding rows_text
+rows_length [] h = short [] (omega arith)
+rows_length (g ∷ []) h = omega (arith, gaussian_length g)
+rows_length (g ∷ f ∷ rows) h = short _ (omega (arith, map_size gaussian_text 87 gaussian_length (g ∷ f ∷ rows)))
+
+-- an interval that is there has at most eight rows
+abbrev pub Few : Option IntervalRows → Type 0
+Few None = Unit {0}
+Few (Some rows) = length rows ≤ 8
+
+abbrev pub FewOf : CoveredApproximation → Type 0
+FewOf (told g) = (length g.muzzle_velocity ≤ 8) × (length g.ballistic_coefficient ≤ 8)
+FewOf (withheld code) = Unit {0}
+
+abbrev pub FewIn : List CoveredBand → Type 0
+FewIn [] = Unit {0}
+FewIn (b ∷ bands) = Few b.latent × Few b.future × FewIn bands
+
+interval_length : (i : Option IntervalRows) → Few i → length (interval_text i) ≤ 706
+interval_length None h = omega arith
+interval_length (Some rows) h = rows_length rows h
 
 prior_length : (p : Option NormalPriorV1) → length (prior_text p) ≤ 36
 unfolding normal_text
@@ -209,26 +235,31 @@ unfolding covariance_text
 covariance_length c =
     short _ (omega (arith, double_length c.mv_variance_fps2, double_length c.mv_bc_covariance_fps, double_length c.bc_variance))
 
-approximation_length : (a : Approximation) → length (approximation_text a) ≤ 276
+approximation_length : (a : CoveredApproximation) → FewOf a → length (approximation_text a) ≤ 1514
 unfolding approximation_text available_text
-approximation_length (available g q) =
+approximation_length (told g) h =
     short _ (omega (
       arith,
       covariance_length g.covariance,
-      gaussian_length g.muzzle_velocity_interval_95,
-      gaussian_length g.ballistic_coefficient_interval_95,
-      double_length g.mv_bc_correlation,
-      double_length g.scaled_information_condition_number,
+      rows_length g.muzzle_velocity h.0,
+      rows_length g.ballistic_coefficient h.1,
+      double_length g.correlation,
+      double_length g.condition_number,
     ))
-approximation_length (unavailable code) = short _ (omega (arith, failure_length code))
+approximation_length (withheld code) h = short _ (omega (arith, failure_length code))
 
-pub band_length : (b : Band) → length (band_text b) ≤ 212
+band_length : (b : CoveredBand) → Few b.latent → Few b.future → length (band_text b) ≤ 1450
 unfolding band_text
-band_length b = short _ (omega (arith, double_length b.range, double_length b.predicted_drop, interval_length b.latent, interval_length b.future))
+band_length b h k =
+    short _ (omega (arith, double_length b.range, double_length b.predicted_drop, interval_length b.latent h, interval_length b.future k))
 
-bands_length : (bands : List Band) → length bands ≤ 64 → length (bands_text bands) ≤ 13634
+bands_size : (bands : List CoveredBand) → FewIn bands → size (map band_text bands) ≤ 2 + 1451 * length bands
+bands_size [] h = omega arith
+bands_size (b ∷ bands) h = omega (arith, band_length b h.0 h.1, bands_size bands h.2, mul-suc 1451 (length bands))
+
+bands_length : (bands : List CoveredBand) → FewIn bands → length bands ≤ 64 → length (bands_text bands) ≤ 92866
 unfolding bands_text
-bands_length bands h = short _ (omega (arith, map_size band_text 212 band_length bands))
+bands_length bands few h = short _ (omega (arith, bands_size bands few))
 
 name_length : (code : TruingUncertaintyWarningCodeV1) → length (warning_name code) ≤ 32
 name_length Warning.OptimizerDidNotConverge = omega arith
@@ -278,10 +309,15 @@ codes_length a b c d e f g h i j =
       warn_length a Warning.OptimizerDidNotConverge l1,
     )
 
-pub warnings_most : (m : Measured) (f : Fit) (e : Evaluation) (a : Approximation) (d : Diagnostics) (requested : List Requested)
-    → length (warnings_of m f e a d requested) ≤ 10
-unfolding warnings_by
-warnings_most m f e a d requested = rw warnings_by_lem (codes_length _ _ _ _ _ _ _ _ _ _)
+pub warnings_most : (crosses : Bool) (m : Measured) (f : Fit) (e : Evaluation) (a : Approximation) (d : Diagnostics) (requested : List Requested)
+    → length (warnings_with crosses m f e a d requested) ≤ 10
+unfolding codes
+warnings_most crosses m f e a d requested =
+    codes_length (not (converged f.convergence)) (is_mesh f.convergence) (lt e.bc_sensitivity_ratio least_sensitivity_ratio)
+    (not (finite e.data_condition_number) || lt largest_condition e.data_condition_number)
+    (where_available (λ g. dominated_of m.priors.muzzle_velocity_fps g.covariance.mv_variance_fps2) a)
+    (where_available (λ g. dominated_of m.priors.ballistic_coefficient g.covariance.bc_variance) a) (is_unavailable a) crosses
+    (at_most_one d.effective_degrees_of_freedom) (any (is_outside m.observations) requested)
 
 warnings_length : (codes : List TruingUncertaintyWarningCodeV1) → length codes ≤ 10 → length (warnings_text codes) ≤ 362
 unfolding warnings_text
@@ -293,14 +329,34 @@ truth_length false = omega arith
 
 -- ---- the answers
 
--- the lists of a report have no more entries than a session has places, and there are ten warnings
-pub record Bounded (p : Report) : Type 0 where
+-- the lists of a report have no more entries than a session has places, there are ten warnings, and an interval has no more rows than a table
+pub record Bounded (p : CoveredReport) : Type 0 where
   pub results : length p.observations ≤ 64
   pub entered : (b : Baseline) → p.baseline ≡ Some b → length b.observations ≤ 64
   pub bands : length p.bands ≤ 64
   pub warnings : length p.warnings ≤ 10
+  pub parameter_rows : FewOf p.approximation
+  pub band_rows : FewIn p.bands
 
-pub report_length : (p : Report) → Bounded p → length (report_text p) ≤ 28200
+-- under a table of at most eight rows
+module _ (t : Table) (few : length t ≤ 8) where
+  few_rows : (g : GaussianIntervalV1) → length (rows_under t g) ≤ 8
+  unfolding rows_under
+  few_rows g = omega (arith, length-map t (at_row g))
+
+  few_told : (i : Option GaussianIntervalV1) → Few (option_map (rows_under t) i)
+  few_told None = tt
+  few_told (Some g) = few_rows g
+
+  pub few_of : (a : Approximation) → FewOf (approximation_by (rows_under t) a)
+  few_of (available g q) = (few_rows g.muzzle_velocity_interval_95, few_rows g.ballistic_coefficient_interval_95)
+  few_of (unavailable code) = tt
+
+  pub few_in : (bands : List Band) → FewIn (map (band_by (rows_under t)) bands)
+  few_in [] = tt
+  few_in (b ∷ bands) = (few_told b.latent, few_told b.future, few_in bands)
+
+pub report_length : (p : CoveredReport) → Bounded p → length (report_text p) ≤ 108700
 unfolding report_text
 report_length p h =
     short _ (omega (
@@ -314,8 +370,8 @@ report_length p h =
       results_length p.observations h.results,
       baseline_length p.baseline h.entered,
       diagnostics_length p.diagnostics,
-      approximation_length p.approximation,
-      bands_length p.bands h.bands,
+      approximation_length p.approximation h.parameter_rows,
+      bands_length p.bands h.band_rows h.bands,
       warnings_length p.warnings h.warnings,
     ))
 

@@ -1,18 +1,23 @@
--- Laws of lists by their places: a list's first items, the warnings that stand. Assumes nothing.
+-- Laws of lists by their places: a list's first items, the rows of an interval, the warnings that stand. Assumes nothing.
 use Rattle.std.specs.Prelude.{Option, None, Some, slice_get, option_map}
 use Prim.Native.Nat.{ℕ, zero, suc, ◌+◌}
 use mathlib.Core.Path.{◌≡◌, refl, sym, ap, ◌∙◌}
 use mathlib.Core.Bool.{Bool, true, false, cond}
 use mathlib.Core.List.{List, [], ◌∷◌, ◌++◌, map, map-append, append-nil, append_assoc}
 use native.Mathlib.Numerals.{add-one}
-use lib.ListN.{take}
+use native.Mathlib.Omega.{arith}
+use lib.ListN.{take, length}
+use lib.Seq.{take-length}
+use Rattle.interval.specs.declared.GaussianIntervalV1.{GaussianIntervalV1}
 use Rattle.definition.specs.Summary.{warn}
 use Rattle.definition.specs.declared.TruingUncertaintyWarningCodeV1.{TruingUncertaintyWarningCodeV1}
+use Rattle.coverage.specs.declared.CoverageRow.{CoverageRow}
+use Rattle.coverage.specs.Rows.{Table, at_row, rows_under}
 use Rattle.warnings.specs.Warnings.{codes, codes_of}
 use Rattle.warnings.specs.declared.Warnings.{Warnings}
 use Rattle.words.specs.Words.{bytes}
 use Rattle.report_text.specs.Writing.{Text}
-use Rattle.report_text.specs.Texts.{led, joined, opened, bracketed}
+use Rattle.report_text.specs.Texts.{led, joined, opened, bracketed, gaussian_text, rows_text}
 use Rattle.report_text.specs.Writer.{Held, put}
 use Rattle.report_text.specs.Lists.{one_of, present, after_each, separated, warning_at}
 use Rattle.report_text.proofs.Putting.{put_put}
@@ -95,6 +100,34 @@ pub taken : {A : Type 0} (text : A → Text) (l : List A) (n : ℕ) → present 
 taken text l zero = refl
 taken text l (suc n) =
     rw (taken text l n, one_map text (slice_get l n), sym (map-append text (take n l) (one_of (slice_get l n))), take_more l n)
+
+-- ---- the rows of an interval
+
+-- one is its record
+pub one_row : (t : Table) (g : GaussianIntervalV1) (r : CoverageRow) → length t ≡ 1 → slice_get t 0 ≡ Some r
+    → gaussian_text (at_row g r) ≡ rows_text (rows_under t g)
+unfolding rows_text rows_under
+one_row [] g r e f = cc
+one_row (s ∷ []) g r e f = cc
+one_row (s ∷ q ∷ t) g r e f = absurd (omega arith)
+
+map_rows : (t : Table) (g : GaussianIntervalV1) → map gaussian_text (rows_under t g) ≡ map (λ r. gaussian_text (at_row g r)) t
+unfolding rows_under
+map_rows [] g = refl
+map_rows (r ∷ t) g = ap (λ (l : List Text). gaussian_text (at_row g r) ∷ l) (map_rows t g)
+
+listed : (t : Table) (g : GaussianIntervalV1) → (length t ≡ 1 → ⊥) → rows_text (rows_under t g) ≡ bracketed (map gaussian_text (rows_under t g))
+unfolding rows_text rows_under
+listed [] g h = refl
+listed (r ∷ []) g h = absurd (h refl)
+listed (r ∷ q ∷ t) g h = refl
+
+-- several are a list, by the table's places
+pub several_rows : (t : Table) (g : GaussianIntervalV1) → (length t ≡ 1 → ⊥)
+    → rows_text (rows_under t g) ≡ bracketed (present (length t) (λ i. option_map (λ r. gaussian_text (at_row g r)) (slice_get t i)))
+several_rows t g h =
+    let text = λ (r : CoverageRow). gaussian_text (at_row g r) in
+    listed t g h ∙ ap bracketed (map_rows t g ∙ ap (map text) (sym (take-length t)) ∙ sym (taken text t (length t)))
 
 -- ---- the warnings that stand
 

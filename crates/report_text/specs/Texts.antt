@@ -1,10 +1,10 @@
--- S22's report written out, and the other answers of the line protocol (docs/PROTOCOL.md). A text is the list of its bytes; none of these has its line feed.
+-- S22's report written out, under a coverage table (L2), and the other answers of the line protocol (docs/PROTOCOL.md). A text is the list of its bytes; none
+-- of these has its line feed.
 use Rattle.std.specs.Prelude.{ℕ, Bool, true, false, List, [], ◌∷◌, ◌++◌, map, Float, Option, None, Some}
 use Rattle.interval.specs.declared.GaussianIntervalV1.{GaussianIntervalV1}
 use Rattle.definition.specs.declared.NormalPriorV1.{NormalPriorV1}
 use Rattle.definition.specs.declared.TruingPriorsV1.{TruingPriorsV1}
 use Rattle.definition.specs.declared.TruingCovarianceV1.{TruingCovarianceV1}
-use Rattle.definition.specs.declared.TruingGaussianApproximationV1.{TruingGaussianApproximationV1}
 use Rattle.definition.specs.declared.WeightedTruingObservationResultV1.{WeightedTruingObservationResultV1}
 use Rattle.definition.specs.declared.TruingMapConvergenceCriterionV1.{TruingMapConvergenceCriterionV1}
 use Rattle.definition.specs.declared.TruingMapConvergenceCriterionV1.TheVariants.{ScaledGradient, ObjectiveMesh}
@@ -12,8 +12,10 @@ use Rattle.definition.specs.declared.TruingApproximationFailureCodeV1.{TruingApp
 use Rattle.definition.specs.declared.TruingApproximationFailureCodeV1.TheVariants as Failure
 use Rattle.definition.specs.declared.TruingUncertaintyWarningCodeV1.{TruingUncertaintyWarningCodeV1}
 use Rattle.definition.specs.declared.TruingUncertaintyWarningCodeV1.TheVariants as Warning
-use Rattle.definition.specs.Summary.{Baseline, Approximation, available, unavailable, Diagnostics, Band, Report}
+use Rattle.definition.specs.Summary.{Baseline, Diagnostics}
 use Rattle.definition.specs.Meaning.{approximation_says}
+use Rattle.coverage.specs.Rows.{Table, rows_under}
+use Rattle.coverage.specs.Report.{GaussianWith, approximation_by, IntervalRows, CoveredApproximation, told, withheld, CoveredBand, CoveredReport}
 use Rattle.summary.specs.Summary.{diagnostics_says}
 use Rattle.warnings.specs.Warnings.{codes_of}
 use Rattle.report.specs.declared.UncertaintyTruingReportV1.{UncertaintyTruingReportV1}
@@ -46,6 +48,11 @@ bracketed fs = opened fs ++ bytes ")"
 abbrev pub or_none : {A : Type 0} → (A → Text) → Option A → Text
 or_none text None = bytes "none"
 or_none text (Some a) = text a
+
+-- one text stands alone; several stand as a list
+abbrev pub one_or_list : List Text → Text
+one_or_list (t ∷ []) = t
+one_or_list ts = bracketed ts
 
 -- ---- single fields
 
@@ -86,8 +93,12 @@ gaussian_text g =
     bracketed (double_text g.estimate ∷ double_text g.standard_deviation ∷ double_text g.lower ∷ double_text g.upper ∷ double_text
     g.probability ∷ [])
 
-abbrev pub interval_text : Option GaussianIntervalV1 → Text
-interval_text i = or_none gaussian_text i
+-- L2: an interval "comes once per row" of the coverage table; it "prints as a list if the table has several rows, an absent one as a single `none`"
+unfoldable pub rows_text : IntervalRows → Text
+rows_text rows = one_or_list (map gaussian_text rows)
+
+abbrev pub interval_text : Option IntervalRows → Text
+interval_text i = or_none rows_text i
 
 unfoldable pub normal_text : NormalPriorV1 → Text
 normal_text p = bracketed (double_text p.mean ∷ double_text p.sigma ∷ [])
@@ -124,21 +135,20 @@ diagnostics_text d =
 unfoldable pub covariance_text : TruingCovarianceV1 → Text
 covariance_text c = bracketed (double_text c.mv_variance_fps2 ∷ double_text c.mv_bc_covariance_fps ∷ double_text c.bc_variance ∷ [])
 
--- the scaled covariance is no field of the report
-unfoldable pub available_text : TruingGaussianApproximationV1 → Text
+unfoldable pub available_text : GaussianWith IntervalRows → Text
 available_text g =
     bracketed
-    (bytes "Available" ∷ covariance_text g.covariance ∷ gaussian_text g.muzzle_velocity_interval_95 ∷ gaussian_text g.ballistic_coefficient_interval_95 ∷
-    double_text g.mv_bc_correlation ∷ double_text g.scaled_information_condition_number ∷ [])
+    (bytes "Available" ∷ covariance_text g.covariance ∷ rows_text g.muzzle_velocity ∷ rows_text g.ballistic_coefficient ∷
+    double_text g.correlation ∷ double_text g.condition_number ∷ [])
 
-unfoldable pub approximation_text : Approximation → Text
-approximation_text (available g q) = available_text g
-approximation_text (unavailable code) = bracketed (bytes "Unavailable" ∷ failure_name code ∷ [])
+unfoldable pub approximation_text : CoveredApproximation → Text
+approximation_text (told g) = available_text g
+approximation_text (withheld code) = bracketed (bytes "Unavailable" ∷ failure_name code ∷ [])
 
-unfoldable pub band_text : Band → Text
+unfoldable pub band_text : CoveredBand → Text
 band_text b = bracketed (double_text b.range ∷ double_text b.predicted_drop ∷ interval_text b.latent ∷ interval_text b.future ∷ [])
 
-unfoldable pub bands_text : List Band → Text
+unfoldable pub bands_text : List CoveredBand → Text
 bands_text bands = bracketed (map band_text bands)
 
 -- a warning is a record of one code
@@ -150,20 +160,20 @@ warnings_text codes = bracketed (map warning_text codes)
 
 -- ---- the report
 
-unfoldable pub report_text : Report → Text
+unfoldable pub report_text : CoveredReport → Text
 report_text p =
     bracketed
     (bytes "report" ∷ count_text p.schema_version ∷ double_text p.point.mv ∷ double_text p.point.bc ∷ count_text p.iterations ∷ truth_text p.is_converged ∷
     priors_text p.priors ∷ results_text p.observations ∷ baseline_text p.baseline ∷ diagnostics_text p.diagnostics ∷
     approximation_text p.approximation ∷ bands_text p.bands ∷ warnings_text p.warnings ∷ [])
 
--- by its head, beside the texts of its lists and of its baseline
-unfoldable pub parts_text : UncertaintyTruingReportV1 → Text → Text → Text → Text
-parts_text h observations baseline bands =
+-- under a table, by its head, beside the texts of its lists and of its baseline
+unfoldable pub parts_text : Table → UncertaintyTruingReportV1 → Text → Text → Text → Text
+parts_text t h observations baseline bands =
     bracketed
     (bytes "report" ∷ count_text h.schema_version ∷ double_text h.map_muzzle_velocity_fps ∷ double_text h.map_ballistic_coefficient ∷ count_text h.iterations ∷
     truth_text h.converged ∷ priors_text h.priors ∷ observations ∷ baseline ∷ diagnostics_text (diagnostics_says h.diagnostics) ∷
-    approximation_text (approximation_says h.approximation) ∷ bands ∷ warnings_text (codes_of h.warnings) ∷ [])
+    approximation_text (approximation_by (rows_under t) (approximation_says h.approximation)) ∷ bands ∷ warnings_text (codes_of h.warnings) ∷ [])
 
 -- ---- the other answers
 

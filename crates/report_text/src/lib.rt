@@ -10,6 +10,7 @@ mod text;
 mod writer;
 
 pub use lists::{First, Places, put_each};
+pub use records::Under;
 pub use text::Text;
 pub use writer::Writer;
 

@@ -1,16 +1,21 @@
 // The records of a report, their fields in the source's order.
 
-ghost use Rattle.std.specs.Prelude.{Option, Some, None, cond};
+ghost use Rattle.std.specs.Prelude.{◌≡◌, Option, Some, None, cond, option_map, slice_get};
 ghost use Rattle.definition.specs.Meaning.{approximation_says};
+ghost use Rattle.coverage.specs.Rows.{at_row, rows_under};
+ghost use Rattle.coverage.specs.Report.{gaussian_by, approximation_by, band_by};
+ghost use Rattle.coverage.specs.Table.{rows_in};
 ghost use Rattle.summary.specs.Summary.{diagnostics_says};
 ghost use Rattle.bands.specs.Bands.{band_says};
 ghost use Rattle.warnings.specs.Warnings.{codes_of, stands_in};
 ghost use Rattle.report_text.specs.Texts.{criterion_name, failure_name, warning_text, list_name, gaussian_text, normal_text, priors_text, result_text};
-ghost use Rattle.report_text.specs.Texts.{diagnostics_text, covariance_text, available_text, approximation_text, band_text, warnings_text};
+ghost use Rattle.report_text.specs.Texts.{diagnostics_text, covariance_text, rows_text, interval_text, available_text, approximation_text, band_text};
+ghost use Rattle.report_text.specs.Texts.{warnings_text};
 ghost use Rattle.report_text.specs.Lists.{warning_at};
 
 use crate::{First, Places, Text, Writer};
 use bands::TruingPredictiveBandV1;
+use coverage::Table;
 use definition::{
     Distances, NormalPriorV1, TruingApproximationFailureCodeV1, TruingApproximationV1,
     TruingCovarianceV1, TruingGaussianApproximationV1, TruingMapConvergenceCriterionV1,
@@ -122,7 +127,7 @@ impl Text for WeightedTruingObservationResultV1 {
     }
 }
 
-// ---- diagnostics, approximation, bands
+// ---- diagnostics, the covariance
 
 impl Text for TruingUncertaintyDiagnosticsV1 {
     ghost text = { λ d. diagnostics_text (diagnostics_says d) };
@@ -158,42 +163,107 @@ impl Text for TruingCovarianceV1 {
     }
 }
 
-impl Text for TruingGaussianApproximationV1 {
-    ghost text = { available_text };
+// ---- what has intervals, under a coverage table
 
-    #[tactic(auto, using(crate::proofs::Putting::next_field, crate::proofs::Putting::closing), unfolding(crate::specs::Texts::available_text, words::specs::Words::word_at))]
-    fn put(&self, w: &mut Writer<'_>) {
-        w.open(&Word::Available);
-        w.field(&self.covariance);
-        w.field(&self.muzzle_velocity_interval_95);
-        w.field(&self.ballistic_coefficient_interval_95);
-        w.field(&self.mv_bc_correlation);
-        w.field(&self.scaled_information_condition_number);
-        w.close();
+// Each interval comes once per row of the table.
+#[derive(Clone, Copy)]
+pub struct Under<'a, T> {
+    pub table: &'a Table,
+    pub it: T,
+}
+
+impl<'a, T> Under<'a, T> {
+    // Something else under the same table.
+    fn with<U>(&self, it: U) -> Under<'a, U>
+        ensures same_table { result.table ≡ self.now.table }
+        ensures holds { result.it ≡ it }
+    {
+        let table = self.table;
+        Under { table, it }
     }
 }
 
-impl Text for TruingApproximationV1 {
-    ghost text = { λ a. approximation_text (approximation_says a) };
+// By the rows, in their order.
+impl Places for Under<'_, GaussianIntervalV1> {
+    type Item = GaussianIntervalV1;
 
-    #[tactic(auto, unfolding(crate::specs::Texts::approximation_text, words::specs::Words::word_at))]
+    ghost texts = { λ u i. option_map (λ r. gaussian_text (at_row u.it r)) (slice_get (rows_in u.table.now) i) };
+
+    fn get(&self, i: usize) -> Option<GaussianIntervalV1> {
+        let row = *self.table.rows().get(i)?;
+        Some(row.interval(self.it))
+    }
+}
+
+// One row is a record, and several are a list of records.
+impl Text for Under<'_, GaussianIntervalV1> {
+    ghost text = { λ u. rows_text (rows_under (rows_in u.table.now) u.it) };
+
+    #[tactic(auto, using(crate::proofs::Listing::one_row, crate::proofs::Listing::several_rows))]
     fn put(&self, w: &mut Writer<'_>) {
-        match self {
-            Ok((g, _)) => g.put(w),
-            Err(code) => (Word::Unavailable, *code).put(w),
+        let rows = self.table.rows();
+        if rows.len() == 1 {
+            rows[0].interval(self.it).put(w);
+        } else {
+            let list = First {
+                n: rows.len(),
+                places: *self,
+            };
+            list.put(w);
         }
     }
 }
 
-impl Text for TruingPredictiveBandV1 {
-    ghost text = { λ b. band_text (band_says b) };
+impl Text for Under<'_, Option<GaussianIntervalV1>> {
+    ghost text = { λ u. interval_text (option_map (rows_under (rows_in u.table.now)) u.it) };
+
+    #[tactic(auto, unfolding(words::specs::Words::word_at))]
+    fn put(&self, w: &mut Writer<'_>) {
+        match self.it {
+            None => Word::None.put(w),
+            Some(it) => self.with(it).put(w),
+        }
+    }
+}
+
+impl Text for Under<'_, TruingGaussianApproximationV1> {
+    ghost text = { λ u. available_text (gaussian_by (rows_under (rows_in u.table.now)) u.it) };
+
+    #[tactic(auto, using(crate::proofs::Putting::next_field, crate::proofs::Putting::closing), unfolding(crate::specs::Texts::available_text, words::specs::Words::word_at))]
+    fn put(&self, w: &mut Writer<'_>) {
+        let g = self.it;
+        w.open(&Word::Available);
+        w.field(&g.covariance);
+        w.field(&self.with(g.muzzle_velocity_interval_95));
+        w.field(&self.with(g.ballistic_coefficient_interval_95));
+        w.field(&g.mv_bc_correlation);
+        w.field(&g.scaled_information_condition_number);
+        w.close();
+    }
+}
+
+impl Text for Under<'_, TruingApproximationV1> {
+    ghost text = { λ u. approximation_text (approximation_by (rows_under (rows_in u.table.now)) (approximation_says u.it)) };
+
+    #[tactic(auto, unfolding(crate::specs::Texts::approximation_text, words::specs::Words::word_at))]
+    fn put(&self, w: &mut Writer<'_>) {
+        match self.it {
+            Ok((it, _)) => self.with(it).put(w),
+            Err(code) => (Word::Unavailable, code).put(w),
+        }
+    }
+}
+
+impl Text for Under<'_, TruingPredictiveBandV1> {
+    ghost text = { λ u. band_text (band_by (rows_under (rows_in u.table.now)) (band_says u.it)) };
 
     #[tactic(auto, using(crate::proofs::Putting::next_field, crate::proofs::Putting::closing), unfolding(crate::specs::Texts::band_text))]
     fn put(&self, w: &mut Writer<'_>) {
-        w.open(&self.range_yd);
-        w.field(&self.predicted_drop);
-        w.field(&self.latent_interval_95);
-        w.field(&self.future_observation_interval_95);
+        let band = self.it;
+        w.open(&band.range_yd);
+        w.field(&band.predicted_drop);
+        w.field(&self.with(band.latent_interval_95));
+        w.field(&self.with(band.future_observation_interval_95));
         w.close();
     }
 }

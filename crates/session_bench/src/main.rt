@@ -4,6 +4,7 @@
 // written.
 #![tactic(auto)]
 
+use coverage::Table;
 use definition::{
     Distances, NormalPriorV1, Point, Step, TruingPredictionRequestV1, TruingPriorsV1,
     UncertaintyTruingRequestV1, WeightedTruingObservationV1,
@@ -165,7 +166,7 @@ struct Total {
 }
 
 // A run, its report written from the start of `out`. The session goes from answer to reply with no copy made here.
-fn run(out: &mut [u8; 32768], asked: Asked, lot: &Lot) -> Total {
+fn run(out: &mut [u8; 131072], asked: Asked, lot: &Lot) -> Total {
     let mut a = lot.opened(asked);
     let mut entries = [None; 64];
     for _ in 0..editing::MAX_QUESTIONS {
@@ -179,7 +180,7 @@ fn run(out: &mut [u8; 32768], asked: Asked, lot: &Lot) -> Total {
     let last = if asked.reports == Reports::Left {
         0
     } else {
-        answer_text::put_answer(out, 0, a)
+        answer_text::put_answer(out, 0, a, &Table::single())
     };
     Total {
         questions: editing::asked(a.session),
@@ -188,7 +189,7 @@ fn run(out: &mut [u8; 32768], asked: Asked, lot: &Lot) -> Total {
     }
 }
 
-fn runs(out: &mut [u8; 32768], asked: Asked) -> Total {
+fn runs(out: &mut [u8; 131072], asked: Asked) -> Total {
     let lot = Lot::new(asked.solver);
     let mut total = Total::default();
     for _ in 0..asked.times {
@@ -234,7 +235,7 @@ impl Asked {
 
 fn main(rt: HostRuntime) -> io::Result<()> {
     let mut space = [0u8; 4096];
-    let mut out = [0u8; 32768];
+    let mut out = [0u8; 131072];
     let mut input = rt.reader();
     let n = input.read(&mut space)?;
     let asked = Asked::read(slices::first_places(&space, n));

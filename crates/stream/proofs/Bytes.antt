@@ -15,6 +15,7 @@ use Rattle.lines.specs.Reading.{start_of, take_of, form_if, short, read_rest, re
 use Rattle.lines.specs.declared.Line.{Line}
 use Rattle.lines.proofs.Lines.{line_form, long_same}
 use Rattle.report_text.specs.Writing.{Text}
+use Rattle.coverage.specs.Rows.{Table}
 use Rattle.conversation.specs.Conversation.{Conversation, Answered, unended_text, next_line, answer_to, text_of, initial}
 use Rattle.stream.specs.Output.{unended, on_first, lines_of, answers_to, output_of}
 use Rattle.stream.specs.Bytes.{Cut, uncut, cut_byte, cut_from, some, Reads, line_in, ends_in, rest_in, Scans, output_from, Feeds}
@@ -221,9 +222,9 @@ by_lines t s (c ∷ b) = by (eqb c 10) (by_lines (answer_to (next_line t) (form_
         ∙ ap (λ (l : List ℕ). output_to t (l ∷ (lines_of b).0, (lines_of b).1)) (sym (append-nil s))
     by false g h = h ∙ ap (output_to t) (onto_first s c (lines_of b))
 
-pub whole_output : (b : List ℕ) → output_from initial [] b ≡ output_of b
+pub whole_output : (table : Table) (b : List ℕ) → output_from (initial table) [] b ≡ output_of table b
 unfolding output_of
-whole_output b = by_lines initial [] b ∙ ap (output_to initial) (onto_none (lines_of b))
+whole_output table b = by_lines (initial table) [] b ∙ ap (output_to (initial table)) (onto_none (lines_of b))
 
 -- ---- from a place on to the first line feed
 

@@ -16,6 +16,7 @@ use Rattle.words.specs.Words.{bytes}
 use Rattle.lines.specs.Lines.{form_of, entered_of, shot_of, prior_of, distance_of, change_of, take_out_of}
 use Rattle.report_text.specs.Texts.{led, opened, joined, bracketed, question_text, declined_text, asked_text, malformed_text}
 use Rattle.conversation.specs.Conversation.{answer_to}
+use Rattle.coverage.specs.Rows.{built_in}
 use Rattle.stream.specs.Output.{output_of}
 
 lines : ℕ
@@ -42,19 +43,19 @@ abbrev page : List (List ℕ) → List ℕ
 page [] = []
 page (l ∷ ls) = l ++ (10 ∷ page ls)
 
-asks_first : output_of (page (bytes "(asked)" ∷ [])) ≡ page (bytes "(asked 0)" ∷ [])
+asks_first : output_of built_in (page (bytes "(asked)" ∷ [])) ≡ page (bytes "(asked 0)" ∷ [])
 unfolding lines doubles fits runs
 asks_first = refl
 
-none_of_the_forms : output_of (page (bytes "(refused)" ∷ bytes "(asked )" ∷ [])) ≡ page (bytes "(declined 8 0)" ∷ bytes "(malformed 2)" ∷ [])
+none_of_the_forms : output_of built_in (page (bytes "(refused)" ∷ bytes "(asked )" ∷ [])) ≡ page (bytes "(declined 8 0)" ∷ bytes "(malformed 2)" ∷ [])
 unfolding lines doubles fits runs
 none_of_the_forms = refl
 
-unended_line : output_of (page (bytes "(take-out 1)" ∷ []) ++ bytes "(asked)") ≡ page (bytes "(declined 14 0)" ∷ bytes "(malformed 2)" ∷ [])
+unended_line : output_of built_in (page (bytes "(take-out 1)" ∷ []) ++ bytes "(asked)") ≡ page (bytes "(declined 14 0)" ∷ bytes "(malformed 2)" ∷ [])
 unfolding lines doubles fits runs
 unended_line = refl
 
-transcript : output_of
+transcript : output_of built_in
     (page
     (bytes "(entered 409f400000000000 3fd3333333333333)"
     ∷ bytes "(shot 4059000000000000 4024000000000000 3ff0000000000000)"
@@ -66,7 +67,7 @@ unfolding lines doubles fits runs
 transcript = refl
 
 -- and some of its replies
-replies : output_of (page
+replies : output_of built_in (page
     (bytes "(entered 409f400000000000 3fd3333333333333)"
     ∷ bytes "(shot 4059000000000000 4024000000000000 3ff0000000000000)"
     ∷ bytes "(shot 4069000000000000 4026000000000000 3ff0000000000000)"

@@ -62,9 +62,9 @@ all_pieces h t s (p ∷ ps) k m =
     }
 
 pub output : Output
-output h k ps m out after n f =
-    let r = all_pieces h initial [] ps k m in
+output table h k ps m out after n f =
+    let r = all_pieces h (initial table) [] ps k m in
     ap (λ (b : Text). all_written ps ++ b) (taken (f.goes r.conversation r.line r.holds))
     ∙ sym (r.same [])
-    ∙ ap (output_from initial []) (append-nil (input ps))
-    ∙ whole_output (input ps)
+    ∙ ap (output_from (initial table) []) (append-nil (input ps))
+    ∙ whole_output table (input ps)

@@ -2,6 +2,7 @@
 -- (lines), and what is answered to it `answer_to` (conversation).
 use Rattle.std.specs.Prelude.{ℕ, cond, List, [], ◌∷◌, ◌++◌, eqb}
 use Rattle.lines.specs.Lines.{form_of}
+use Rattle.coverage.specs.Rows.{Table}
 use Rattle.report_text.specs.Writing.{Text}
 use Rattle.conversation.specs.Conversation.{Conversation, initial, next_line, answer_to, text_of, unended_text}
 
@@ -27,8 +28,9 @@ abbrev pub unended : Conversation → List ℕ → Text
 unended t [] = []
 unended t (c ∷ l) = unended_text t
 
-unfoldable pub output_of : List ℕ → List ℕ
-output_of s =
+-- under a coverage table
+unfoldable pub output_of : Table → List ℕ → List ℕ
+output_of table s =
     let ls = lines_of s in
-    let a = answers_to initial ls.0 in
+    let a = answers_to (initial table) ls.0 in
     a.1 ++ unended a.0 ls.1

@@ -1,6 +1,7 @@
 -- What a program has written that hands its input to `feed` in pieces, each until it is used up, writes out what each call left in the buffer, and ends with
 -- `finish`.
 use Rattle.std.specs.Prelude.{◌≡◌, List, [], ◌∷◌, ◌++◌, ℕ, ◌≤◌, length, take}
+use Rattle.coverage.specs.Rows.{Table}
 use Rattle.report_text.specs.Writing.{Text}
 use Rattle.conversation.specs.Conversation.{initial}
 use Rattle.stream.specs.Output.{output_of}
@@ -54,8 +55,9 @@ all_written [] = []
 all_written (p ∷ ps) = written p.calls ++ all_written ps
 
 -- Theorem `output`: however the input is cut into pieces, what is written for it, from a state that `new` gave to what `finish` leaves, is what the
--- definition says.
+-- definition says, under the table that `new` was handed.
 abbrev pub Output : Type 0
 Output =
-    (h : State) → Holds h initial [] → (ps : List Piece) → InputFed h ps → (out after : Text) (n : ℕ) → Finishes (last_state h ps) out after n
-    → all_written ps ++ take n after ≡ output_of (input ps)
+    (table : Table) (h : State) → Holds h (initial table) [] → (ps : List Piece) → InputFed h ps → (out after : Text) (n : ℕ)
+    → Finishes (last_state h ps) out after n
+    → all_written ps ++ take n after ≡ output_of table (input ps)

@@ -3,10 +3,12 @@
 
 ghost use Rattle.std.specs.Prelude.{◌≡◌, true, false, List, [], ◌∷◌, ◌++◌, ℕ};
 ghost use Rattle.lines.specs.Reading.{take_of};
+ghost use Rattle.coverage.specs.Table.{rows_in};
 ghost use Rattle.conversation.specs.Conversation.{initial};
 ghost use Rattle.stream.specs.Bytes.{Reads, Scans, Holds, Feeds, Finishes};
 
 use conversation::Conversation;
+use coverage::Table;
 use fixed_list::FixedList;
 use lines::Line;
 
@@ -97,17 +99,17 @@ pub struct Fed {
 }
 
 impl State {
-    pub fn new() -> State
-        ensures { Holds result initial [] }
+    pub fn new(table: Table) -> State
+        ensures { Holds result (initial (rows_in table)) [] }
     {
         State {
             reader: Reader::new(),
-            conversation: Conversation::new(),
+            conversation: Conversation::new(table),
         }
     }
 
     // Bytes from `at` on, up to the end of a line at most.
-    pub fn feed(&mut self, bytes: &[u8], at: usize, out: &mut [u8; 32768]) -> Fed
+    pub fn feed(&mut self, bytes: &[u8], at: usize, out: &mut [u8; 131072]) -> Fed
         ensures { Feeds self.old bytes.now at out.old out.new self.new result }
     {
         let Some(next) = self.reader.scan(bytes, at) else {
@@ -123,7 +125,7 @@ impl State {
     }
 
     // The input ends: a line without its line feed is malformed.
-    pub fn finish(&self, out: &mut [u8; 32768]) -> usize
+    pub fn finish(&self, out: &mut [u8; 131072]) -> usize
         ensures { Finishes self.now out.old out.new result }
     {
         if self.reader.begun {

@@ -72,7 +72,7 @@ fn dominated(prior: Option<NormalPriorV1>, variance: f64) -> bool
 }
 
 #[tactic(auto, unfolding(definition::specs::Summary::crosses_bounds_of))]
-fn crosses_bounds(g: TruingGaussianApproximationV1) -> bool
+pub fn crosses_bounds(g: TruingGaussianApproximationV1) -> bool
     ensures { result ≡ crosses_bounds_of g.muzzle_velocity_interval_95 g.ballistic_coefficient_interval_95 }
 {
     let mv = g.muzzle_velocity_interval_95;

@@ -16,4 +16,5 @@ returns c =
       section = refl;
       request = q;
       session = (opened no_request a (subst (λ (o : Opening). Opened seen o (says_of a.step) a.session) q.same c.open.ensures)).stands;
+      table = refl;
     }
