@@ -737,13 +737,8 @@ pub fn compare(command: Command, count: u64, seed: u64) -> bool {
         vectors.iter().try_for_each(|vector| put_digits(pipe, &vector.file, &mut line))?;
         (0..count).try_for_each(|_| put_digits(pipe, &played(&mut rng), &mut line))
     };
-    let mut counts = Counts::default();
-    let judged = |lines: &mut Lines| {
-        let differ;
-        (counts, differ) = judge(lines, count, seed);
-        differ
-    };
-    let (differ, ended) = stream::play(command, write, judged);
+    let judged = |lines: &mut Lines| judge(lines, count, seed);
+    let (counts, differ, ended) = stream::play_counted(command, write, judged);
     let all = counts.print();
     println!("{:<44}{first:>12}", "vectors");
     stream::conclude(first + count, differ, ended) && all && held

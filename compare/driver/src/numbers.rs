@@ -233,13 +233,8 @@ pub fn compare(command: Command, count: u64, seed: u64) -> bool {
         let mut rng = Rng::new(seed);
         (0..count).try_for_each(|_| writeln!(pipe, "{:016x}", pattern(&mut rng)))
     };
-    let mut counts = Counts::default();
-    let judged = |lines: &mut Lines| {
-        let differ;
-        (counts, differ) = judge(lines, count, seed);
-        differ
-    };
-    let (differ, ended) = stream::play(command, write, judged);
+    let judged = |lines: &mut Lines| judge(lines, count, seed);
+    let (counts, differ, ended) = stream::play_counted(command, write, judged);
     let all = counts.print();
     stream::conclude(count, differ, ended) && all
 }

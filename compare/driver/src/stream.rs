@@ -93,6 +93,22 @@ fn ends_well(child: &mut Child) -> bool {
     }
 }
 
+/// Plays as `play` does; gives what the judge counted, too.
+pub fn play_counted<C: Default>(
+    command: Command,
+    write: impl FnOnce(&mut dyn Write) -> io::Result<()> + Send + 'static,
+    judge: impl FnOnce(&mut Lines) -> (C, u64),
+) -> (C, u64, bool) {
+    let mut counts = C::default();
+    let judged = |lines: &mut Lines| {
+        let differ;
+        (counts, differ) = judge(lines);
+        differ
+    };
+    let (differ, ended) = play(command, write, judged);
+    (counts, differ, ended)
+}
+
 /// Runs a program; gives how many lines differ, and whether it then ended well.
 pub fn play(
     mut command: Command,

@@ -127,17 +127,24 @@ pub fn run(
     opening: &Opening,
     solver: &mut dyn FnMut(Place, f64, f64, usize) -> Reply,
 ) -> Result<Report, Refusal> {
+    watched(solver, |model| match variant {
+        Variant::Untouched => untouched::run(opening, model),
+        Variant::Recipes => recipes::run(opening, model),
+    })
+}
+
+/// What the text comes to over a solver; a message becomes its refusal by what was replied.
+fn watched<T>(
+    solver: &mut dyn FnMut(Place, f64, f64, usize) -> Reply,
+    text: impl FnOnce(&truing::TruingForwardModel<'_>) -> Result<T, String>,
+) -> Result<T, Refusal> {
     let mut watch = Watch::default();
     let mut ask = |place, mv, bc, wanted| {
         let reply = solver(place, mv, bc, wanted);
         watch.note(place, &reply);
         reply
     };
-    let model = truing::TruingForwardModel::new(&mut ask);
-    let outcome = match variant {
-        Variant::Untouched => untouched::run(opening, &model),
-        Variant::Recipes => recipes::run(opening, &model),
-    };
+    let outcome = text(&truing::TruingForwardModel::new(&mut ask));
     outcome.map_err(|message| watch.refusal(&message))
 }
 
@@ -181,15 +188,7 @@ fn row_report(
     opening: &Opening,
     solver: &mut dyn FnMut(Place, f64, f64, usize) -> Reply,
 ) -> Result<rows::UncertaintyTruingReportV1, Refusal> {
-    let mut watch = Watch::default();
-    let mut ask = |place, mv, bc, wanted| {
-        let reply = solver(place, mv, bc, wanted);
-        watch.note(place, &reply);
-        reply
-    };
-    let model = truing::TruingForwardModel::new(&mut ask);
-    let outcome = coverage::under(row, || rows::report(opening, &model));
-    outcome.map_err(|message| watch.refusal(&message))
+    watched(solver, |model| coverage::under(row, || rows::report(opening, model)))
 }
 
 /// What a refusal's number and position are decided by: the last group of

@@ -16,7 +16,7 @@ use Rattle.coverage.specs.declared.Field.{Field}
 use Rattle.coverage.specs.declared.Field.TheVariants.{Level, Factor}
 use Rattle.coverage.specs.declared.Spot.{Spot}
 use Rattle.coverage.specs.declared.Spot.TheVariants as spot
-use Rattle.coverage.specs.File.{cut_at, after, both, at_end, factor_of, fields_of, row_of, Lines, cut, new_line, in_line, lines_of, Form, end_form, if_row, rows_from, head_form, form_of, outside_of, flat_of, risen, ranged, judged, load_of, rows_or}
+use Rattle.coverage.specs.File.{cut_at, after, both, at_end, factor_of, fields_of, row_of, Lines, cut, new_line, in_line, lines_of, Form, end_form, if_row, rows_from, head_form, form_of, outside_of, flat_of, risen, ranged, judged, load_of}
 use Rattle.coverage.specs.Reading.{Standing, number_after, value_at, stop_of, behind_of, field_after, first_line, row_opening, text_after, next_at, rows_after, line_at, begun_of, fed_of, fed_all, form_at, form_in, FitsAt, Fits}
 use Rattle.coverage.specs.Loading.{Loads, FedMore, LoadsFile, AcceptedRows}
 use Rattle.coverage.proofs.Numbers.{number_from, number_on, number_end}
@@ -445,7 +445,7 @@ pub fed_more : FedMore
 fed_more l a b = sym (fold-append fed_of l a b)
 
 pub loads_file : LoadsFile
-loads_file s r t h g = (h ∙ loads s, g ∙ ap rows_or (h ∙ loads s))
+loads_file s r h = h ∙ loads s
 
 -- ---- an accepted table
 

@@ -1,12 +1,10 @@
 -- A laboratory's coverage file: its bytes, and the table or the refusal that they get, `load_of`.
 use Rattle.std.specs.Prelude.{ℕ, ◌+◌, ◌-◌, ◌*◌, ◌^◌, Bool, true, false, cond, ◌&&◌, not, List, [], ◌∷◌, ◌++◌, length, drop, zip, position, ◌==◌, nat_le, nat_lt, Float}
 use Rattle.std.specs.Prelude.{Option, None, Some, option_map, option_and_then, Result, Ok, Err, codes, bytes_eq}
-use Rattle.std.specs.Result.{result_unwrap_or}
 use Rattle.std.specs.Char.{is_ascii_digit}
 use Rattle.std.specs.Float.{binary64}
 use Rattle.std.specs.Float.Ieee.{round, lt}
 use Rattle.numeric.specs.Numeric.{zero64, one64}
-use Rattle.coverage.specs.Rows.{built_in}
 use Rattle.coverage.specs.declared.CoverageRow.{CoverageRow}
 use Rattle.coverage.specs.declared.TableRefusal.{TableRefusal}
 use Rattle.coverage.specs.declared.TableRefusalCode.{TableRefusalCode}
@@ -30,10 +28,6 @@ refusal c k = record { code = c; place = k }
 
 abbrev pub refused : TableRefusalCode → ℕ → Answer
 refused c k = Err (refusal c k)
-
--- the table that there is then; where a file is refused, the built-in one
-abbrev pub rows_or : Answer → List CoverageRow
-rows_or a = result_unwrap_or a built_in
 
 -- ---- "a written number is one or more digits, then optionally a point and 1 to 15 more"
 

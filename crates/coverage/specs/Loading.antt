@@ -5,8 +5,8 @@ use Rattle.std.specs.Float.Ieee.{div, of_int, round}
 use Rattle.coverage.specs.declared.CoverageRow.{CoverageRow}
 use Rattle.coverage.specs.declared.Table.{Table}
 use Rattle.coverage.specs.declared.TableRefusal.{TableRefusal}
-use Rattle.coverage.specs.File.{rows_or, judged, load_of}
-use Rattle.coverage.specs.Table.{rows_in, says}
+use Rattle.coverage.specs.File.{judged, load_of}
+use Rattle.coverage.specs.Table.{says}
 use Rattle.coverage.specs.Reading.{Standing, fed_all, begun_of, form_in}
 
 -- Theorem `loads`: after any bytes, what the reader's state is judged to be is what a file of these bytes gets.
@@ -17,10 +17,9 @@ Loads = (s : List ℕ) → judged (form_in (fed_all begun_of s)) ≡ load_of s
 abbrev pub FedMore : Type 0
 FedMore = (l : Standing) (a b : List ℕ) → fed_all (fed_all l a) b ≡ fed_all l (a ++ b)
 
--- Theorem `loads_file`: what `ended` gives after a file's bytes is what the file gets, and what `in_force` makes of that is its table or the built-in one.
+-- Theorem `loads_file`: what `ended` gives after a file's bytes is what the file gets.
 abbrev pub LoadsFile : Type 0
-LoadsFile = (s : List ℕ) (r : Result Table TableRefusal) (t : Table) → says r ≡ judged (form_in (fed_all begun_of s)) → rows_in t ≡ rows_or (says r)
-    → (says r ≡ load_of s) × (rows_in t ≡ rows_or (load_of s))
+LoadsFile = (s : List ℕ) (r : Result Table TableRefusal) → says r ≡ judged (form_in (fed_all begun_of s)) → says r ≡ load_of s
 
 -- Theorem `accepted_rows`: an accepted table has 1 to 8 rows.
 abbrev pub AcceptedRows : Type 0

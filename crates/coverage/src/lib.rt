@@ -4,7 +4,7 @@
 ghost use Rattle.std.specs.Prelude.{◌≡◌, ◌≤◌, length, slice_index_or, MatchResult, OnOk};
 ghost use Rattle.coverage.specs.Held.{held};
 ghost use Rattle.coverage.specs.Rows.{built_in_row, built_in, last_row, at_row};
-ghost use Rattle.coverage.specs.File.{told_of, refusal, in_range, rises, outside_of, flat_of, ranged, rows_or, judged};
+ghost use Rattle.coverage.specs.File.{told_of, refusal, in_range, rises, outside_of, flat_of, ranged, judged};
 ghost use Rattle.coverage.specs.Reading.{longer_of, digit_after, point_after, number_after, quotient_of, value_at, stop_of, behind_of, field_after, text_after};
 ghost use Rattle.coverage.specs.Reading.{next_at, rows_after, line_at, begun_of, fed_of, fed_all, form_in, Fits};
 
@@ -161,16 +161,6 @@ impl Table {
         Table { rows }
     }
 
-    // What there is once a file is loaded: its table, or the built-in one.
-    pub fn in_force(loaded: Result<Table, TableRefusal>) -> Table
-        ensures { rows_in result ≡ rows_or (says loaded) }
-    {
-        match loaded {
-            Ok(table) => table,
-            Err(_) => Table::single(),
-        }
-    }
-
     pub fn rows(&self) -> &[CoverageRow]
         ensures { result.now ≡ rows_in self.now }
     {
@@ -189,13 +179,6 @@ impl Table {
     {
         let n = self.rows().len();
         self.row(n - 1)
-    }
-
-    // An interval at a row.
-    pub fn interval_row(&self, k: usize, g: GaussianIntervalV1) -> GaussianIntervalV1
-        ensures { result ≡ at_row g (slice_index_or (rows_in self.now) k built_in_row) }
-    {
-        self.row(k).interval(g)
     }
 
     // The place of the first row outside its range.

@@ -60,7 +60,7 @@ fn measured(deviating: [WeightedTruingObservationV1; 12]) -> [WeightedTruingObse
     shots
 }
 
-pub fn sample() -> Lot {
+pub(crate) fn sample() -> Lot {
     // The deviations, in inches: numbers made up for this lot, six of each sign, each below its shot's sigma.
     let deviating = [
         shot(100.0, 0.4, 0.25),
@@ -87,15 +87,15 @@ pub fn sample() -> Lot {
 }
 
 impl Lot {
-    pub fn shot_ranges(&self) -> [f64; 12] {
+    pub(crate) fn shot_ranges(&self) -> [f64; 12] {
         self.shots.map(|o| o.range_yd)
     }
 
-    pub fn requested_ranges(&self) -> [f64; 3] {
+    pub(crate) fn requested_ranges(&self) -> [f64; 3] {
         self.requested.map(|d| d.range_yd)
     }
 
-    pub fn request(&self) -> UncertaintyTruingRequestV1<'_>
+    pub(crate) fn request(&self) -> UncertaintyTruingRequestV1<'_>
         ensures entered { result.entered ≡ ENTERED }
         ensures observations { result.observations.now ≡ self.now.shots }
         ensures predictions { result.predictions.now ≡ self.now.requested }

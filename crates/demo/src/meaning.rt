@@ -282,7 +282,7 @@ fn say_refused(rt: &HostRuntime, refusal: Refusal) -> io::Result<()> {
     println!(rt; " (number {number}, position {position}).")
 }
 
-pub fn say_answer(rt: &HostRuntime, a: Answer) -> io::Result<()> {
+pub(crate) fn say_answer(rt: &HostRuntime, a: Answer) -> io::Result<()> {
     match a.step {
         Step::Question(_, _, _) => say::text(rt, b"A question is still open.\n"),
         Step::Report => say_shown(rt, a.session),

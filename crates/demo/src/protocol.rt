@@ -24,7 +24,7 @@ fn line(rt: &HostRuntime, form: &[u8], fields: &[Option<f64>], absent: &[u8]) ->
     say::text(rt, b")\n")
 }
 
-pub fn say_request(rt: &HostRuntime, lot: &Lot) -> io::Result<()> {
+pub(crate) fn say_request(rt: &HostRuntime, lot: &Lot) -> io::Result<()> {
     let p = lot::ENTERED;
     line(rt, b"entered", &[Some(p.mv), Some(p.bc)], b"none")?;
     for o in &lot.shots {
@@ -53,12 +53,12 @@ pub fn say_request(rt: &HostRuntime, lot: &Lot) -> io::Result<()> {
     line(rt, b"open plain", &[], b"none")
 }
 
-pub fn say_reply(rt: &HostRuntime, entries: &[Option<f64>]) -> io::Result<()> {
+pub(crate) fn say_reply(rt: &HostRuntime, entries: &[Option<f64>]) -> io::Result<()> {
     line(rt, b"drops", entries, b"missing")
 }
 
 // A question, the report or a refusal. The report has fewer bytes than there are here.
-pub fn say_answer(rt: &HostRuntime, a: Answer) -> io::Result<()> {
+pub(crate) fn say_answer(rt: &HostRuntime, a: Answer) -> io::Result<()> {
     let mut out = [0u8; 131072];
     let end = answer_text::put_answer(&mut out, 0, a, &Table::single());
     say::first(rt, &out, end)?;
