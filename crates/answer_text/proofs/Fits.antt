@@ -10,7 +10,6 @@ use lib.ListN.{length, take, length-take, length-append, length-map}
 use lib.Ieee.{Float}
 use Rattle.definition.specs.Likelihood.{rows_of}
 use Rattle.definition.specs.Meaning.{observation_of}
-use Rattle.definition.specs.Session.{State, asking, standing, over}
 use Rattle.definition.specs.Summary.{Baseline, Approximation, converged, approximation_of, diagnostics_of, result_of, band_of, report_of}
 use Rattle.coverage.specs.Rows.{Table, rows_under}
 use Rattle.coverage.specs.Report.{band_by, CoveredBand, CoveredReport, crosses_under, warnings_under, report_under}
@@ -22,19 +21,19 @@ use Rattle.lists.specs.declared.Wanted.{Wanted}
 use Rattle.stencil.specs.Stencil.{rows_at}
 use Rattle.stencil.specs.declared.StencilRows.{StencilRows}
 use Rattle.phases.specs.Phases.{finished_of}
-use Rattle.session.specs.Meaning.{measured_of, baseline_from, held_of, within_of, stands_in}
+use Rattle.run_body.specs.Meaning.{measured_of, baseline_from, held_of, within_of}
+use Rattle.session.specs.Meaning.{stands_in}
 use Rattle.definition.specs.Refusals.{number_of}
 use Rattle.definition.specs.declared.Step.{Step}
 use Rattle.session.specs.Meaning as run
 use Rattle.report_parts.specs.Parts.{results_at, bands_at}
-use Rattle.report.specs.Reading.{report_in}
-use Rattle.session.specs.declared.Body.{Body}
+use Rattle.run_body.specs.declared.Body.{Body}
 use Rattle.session.specs.declared.Session.{Session as Running}
-use Rattle.session.proofs.Laws.{shots_within, wanted_within}
-use Rattle.session.proofs.Reading.{not_standing, standing_within, is_standing}
+use Rattle.run_body.proofs.Laws.{shots_within, wanted_within}
+use Rattle.finished_run.proofs.Reading.{not_standing, standing_within, is_standing}
 use Rattle.editing.specs.Meaning.{state, state_by}
 use Rattle.editing.specs.declared.OpenEdit.{OpenEdit}
-use Rattle.editing.proofs.Laws.{unreported}
+use Rattle.editing.proofs.Laws.{unfinished}
 use Rattle.covered_report.specs.Reading.{covered_in}
 use Rattle.report_text.proofs.Lengths.{FewIn, few_of, few_in, Bounded, warnings_most, report_length, question_length, declined_length}
 use Rattle.answer_text.specs.Answers.{said_text, answer_text, AnswerFits}
@@ -66,12 +65,6 @@ entered_most : (b : Body) → b.shots.n ≤ 64 → (drops : Option (List Float))
 entered_most b h None x e = absurd (nothing refl e)
 entered_most b h (Some drops) x e = subst (λ (y : Baseline). length y.observations ≤ 64) (some_is e) (results_most b.shots drops h)
 
--- no table makes a report stand
-none_under : (t : Table) (x : State) → report_in x ≡ None → covered_in t x ≡ None
-none_under t (standing c) e = absurd (nothing e refl)
-none_under t (asking kept r) e = refl
-none_under t over e = refl
-
 module _ (t : Table) (few : length t ≤ 8) where
   bounded : (b : Body) → within_of b ≡ true → Bounded (report_under t (finished_of (held_of b)))
   unfolding report_of report_under warnings_under
@@ -102,11 +95,11 @@ module _ (t : Table) (few : length t ≤ 8) where
           let stands : covered_in t (run.state s) ≡ Some (report_under t (finished_of (held_of s.body))) = ap (covered_in t) (is_standing s f) in
           let same : report_under t (finished_of (held_of s.body)) ≡ p = cc in
           subst Bounded same (bounded s.body (standing_within s f))
-      by false f = absurd (nothing (none_under t (run.state s) (not_standing s f)) e)
+      by false f = absurd (nothing (ap (option_map (report_under t)) (not_standing s f)) e)
 
   pub shown_bounded : (s : Running) (x : Option OpenEdit) (p : CoveredReport) → covered_in t (state_by s x) ≡ Some p → Bounded p
   shown_bounded s None p e = run_bounded s p e
-  shown_bounded s (Some x) p e = absurd (nothing (none_under t (state_by s (Some x)) (unreported (run.state s) x)) e)
+  shown_bounded s (Some x) p e = absurd (nothing (ap (option_map (report_under t)) (unfinished (run.state s) x)) e)
 
 -- ---- the answer
 

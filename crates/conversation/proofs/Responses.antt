@@ -1,5 +1,5 @@
 -- What each line comes to, over plain values. Assumes nothing.
-use Rattle.std.specs.Prelude.{None, Some, Option}
+use Rattle.std.specs.Prelude.{None, Some, Option, option_map}
 use Prim.Native.Nat.{ℕ, suc, ◌+◌, ◌≤◌, min}
 use mathlib.Core.Path.{◌≡◌, refl, sym, ap, ◌∙◌, subst}
 use mathlib.Core.Bool.{Bool, true, false, cond, true≢false}
@@ -19,14 +19,14 @@ use Rattle.lines.specs.declared.Form.{Form as Read}
 use Rattle.lines.specs.declared.Line.{Line}
 use Rattle.coverage.specs.Rows.{Table}
 use Rattle.coverage.specs.Table.{rows_in}
-use Rattle.coverage.specs.Report.{CoveredReport}
+use Rattle.coverage.specs.Report.{CoveredReport, report_under}
 use Rattle.coverage.specs.declared.Table.{Table as TableHeld}
 use Rattle.coverage.proofs.TableRows.{rows_most}
 use Rattle.covered_report.specs.Reading.{covered_in}
 use Rattle.editing.specs.Meaning.{state, seen}
 use Rattle.editing.specs.declared.Session.{Session}
 use Rattle.editing.specs.Meaning.{Answer as Given}
-use Rattle.demands.specs.Calls.{Call, finished_at, covered_by}
+use Rattle.demands.specs.Calls.{Call, finished_at}
 use Rattle.demands.specs.Demands.{Meets, count}
 use Rattle.report_text.proofs.Writing as writing
 use Rattle.report_text.specs.Writing.{Text, Writes}
@@ -53,7 +53,7 @@ use Rattle.requests.specs.declared.Request.{Request}
 use Rattle.conversation.specs.declared.Conversation.{Conversation as Held}
 use Rattle.conversation.specs.declared.Response.{Response}
 use Rattle.conversation.specs.declared.Response.TheVariants as response
-use Rattle.conversation.proofs.Standing.{called, opened, counts, reported}
+use Rattle.conversation.proofs.Standing.{called, opened, counts, finished}
 
 -- ---- in its place or not
 
@@ -100,8 +100,8 @@ module _ (h : Held) (u : Conversation) (k : Tracks h u) where
 
   shown : covered_in (rows_in h.table) (state h.session) ≡ shown_in u
   shown =
-      reported (rows_in h.table) h.session u.opening u.at k.session
-      ∙ ap (λ (t : Table). covered_by t (finished_at u.opening u.at)) k.table
+      ap (option_map (report_under (rows_in h.table))) (finished h.session u.opening u.at k.session)
+      ∙ ap (λ (t : Table). option_map (report_under t) (finished_at u.opening u.at)) k.table
 
   pub text_so : (r : Option Response) (a : Answer) → response_says r ≡ a → response_text (rows_in h.table) h.session r ≡ answer_text u a
   text_so r a e = by r ∙ ap (answer_text u) e

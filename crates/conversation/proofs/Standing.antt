@@ -8,17 +8,15 @@ use Rattle.definition.specs.Run.{Run, refuse}
 use Rattle.definition.specs.Laws.{put}
 use Rattle.definition.specs.Summary.{Finished}
 use Rattle.definition.specs.Whole.{whole}
-use Rattle.definition.specs.Session.{Said, head, sizes_for, says_of, Opened}
-use Rattle.coverage.specs.Rows.{Table}
-use Rattle.covered_report.specs.Reading.{covered_in}
+use Rattle.definition.specs.Session.{finished_in, Said, head, sizes_for, says_of, Opened}
 use Rattle.editing.specs.Meaning.{state, seen}
 use Rattle.editing.specs.declared.Session.{Session}
 use Rattle.editing.specs.Meaning.{Answer}
-use Rattle.demands.specs.Calls.{Call, reply, refuse_point, change, At, first, rest_at, kept_by, finished_by, finished_at, covered_by, taking_reply, taking_refusal}
+use Rattle.demands.specs.Calls.{Call, reply, refuse_point, change, At, first, rest_at, kept_by, finished_by, finished_at, taking_reply, taking_refusal}
 use Rattle.demands.specs.Calls.{taking_edit, unless_declined, after_taken, due, after_call, due_to}
 use Rattle.demands.specs.Demands.{Meets, count}
 use Rattle.demands.specs.Standing.{Inv}
-use Rattle.demands.proofs.Demands.{Good, step, begins, covered_after}
+use Rattle.demands.proofs.Demands.{Good, step, begins, finished_after}
 use Rattle.requests.specs.Kept.{kept}
 use Rattle.conversation.specs.Tracks.{Refuses, Stands}
 use Rattle.requests.proofs.Openings.{Both, kept_all, kept_whole}
@@ -95,16 +93,16 @@ opened o a m =
 pub counts : (s : Session) (o : Opening) (t : At) → Stands s o t → count s ≡ put (whole o) t.run
 counts s o t h = h.inv.counts ∙ ap (λ (u : Run Finished). put u t.run) (kept_whole o)
 
--- the report that the session shows under a table is the definition's
-pub reported : (table : Table) (s : Session) (o : Opening) (t : At) → Stands s o t → covered_in table (state s) ≡ covered_by table (finished_at o t)
-reported table s o t h = by h.all
+-- the finished run that stands is the definition's
+pub finished : (s : Session) (o : Opening) (t : At) → Stands s o t → finished_in (state s) ≡ finished_at o t
+finished s o t h = by h.all
   where
-    ours : covered_in table (state s) ≡ covered_by table (finished_at (kept o) t)
-    ours = ap (covered_in table) h.inv.leads ∙ covered_after table (kept_by t.last) (rest_at (kept o) t)
+    ours : finished_in (state s) ≡ finished_at (kept o) t
+    ours = ap finished_in h.inv.leads ∙ finished_after (kept_by t.last) (rest_at (kept o) t)
 
-    by : (kept o ≡ o) ⊎ Refuses o t → covered_in table (state s) ≡ covered_by table (finished_at o t)
-    by (inl e) = ours ∙ ap (λ (p : Opening). covered_by table (finished_at p t)) e
+    by : (kept o ≡ o) ⊎ Refuses o t → finished_in (state s) ≡ finished_at o t
+    by (inl e) = ours ∙ ap (λ (p : Opening). finished_at p t) e
     by (inr r) =
-        ours ∙ ap (λ (v : At). covered_by table (finished_at (kept o) v)) r.still
-        ∙ ap (λ (u : Run Finished). covered_by table (finished_by None u)) (kept_whole o)
-        ∙ sym (ap (λ (v : At). covered_by table (finished_at o v)) r.still)
+        ours ∙ ap (λ (v : At). finished_at (kept o) v) r.still
+        ∙ ap (λ (u : Run Finished). finished_by None u) (kept_whole o)
+        ∙ sym (ap (λ (v : At). finished_at o v) r.still)

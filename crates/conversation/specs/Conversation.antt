@@ -1,16 +1,16 @@
 -- The line protocol between two lines: where a conversation stands, and what a line's form does to it and gets for an answer. It reads beside docs/PROTOCOL.md.
 -- What is said to a call on the session, and where it stands then, are `due_to` and `after_call` (demands); the texts are those of `report_text` and
 -- `answer_text`.
-use Rattle.std.specs.Prelude.{ℕ, Bool, true, false, [], ◌++◌, length, Option}
+use Rattle.std.specs.Prelude.{ℕ, Bool, true, false, [], ◌++◌, length, Option, option_map}
 use Rattle.numeric.specs.Numeric.{zero64}
 use Rattle.definition.specs.Request.{Opening}
 use Rattle.definition.specs.Laws.{put}
 use Rattle.coverage.specs.Rows.{Table}
-use Rattle.coverage.specs.Report.{CoveredReport}
+use Rattle.coverage.specs.Report.{CoveredReport, report_under}
 use Rattle.definition.specs.Whole as edits
 use Rattle.definition.specs.Whole.{whole}
 use Rattle.definition.specs.Session.{Said, head, more_of}
-use Rattle.demands.specs.Calls.{Call, reply, refuse_point, change, At, first, finished_at, covered_by, after_call, due_to}
+use Rattle.demands.specs.Calls.{Call, reply, refuse_point, change, At, first, finished_at, after_call, due_to}
 use Rattle.lines.specs.Lines.{Form, malformed, entered, shot, prior_speed, prior_coefficient, distance, open_plain, drops, refused, put_in, take_out, exchange}
 use Rattle.lines.specs.Lines.{asked, page}
 use Rattle.report_text.specs.Writing.{Text}
@@ -149,7 +149,7 @@ page_answer shown = line (page_count_text (length (lines_in shown))) ++ page_in 
 
 -- the report that stands, under the table
 abbrev pub shown_in : Conversation → Option CoveredReport
-shown_in t = covered_by t.table (finished_at t.opening t.at)
+shown_in t = option_map (report_under t.table) (finished_at t.opening t.at)
 
 abbrev pub answer_text : Conversation → Answer → Text
 answer_text t nothing = []

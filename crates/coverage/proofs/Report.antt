@@ -22,10 +22,11 @@ use Rattle.definition.specs.Summary.{build_approximation_of, approximation_of, c
 use Rattle.definition.specs.Summary.{latent_of, latent_with, future_of, BandWith, Band, band_of, crosses_bounds_of, crosses_of, warn, warnings_with, warnings_of}
 use Rattle.definition.specs.Summary.{is_mesh, where_available, is_unavailable, ReportWith, Finished, report_of}
 use Rattle.coverage.specs.Rows.{Table, built_in_row, built_in, at_row, rows_under}
-use Rattle.definition.proofs.Warnings.{rising, rising_distinct}
+use Rattle.definition.specs.Laws.{without}
+use Rattle.definition.proofs.Warnings.{rising, rising_distinct, without_warn, without_own}
 use Rattle.coverage.specs.Report.{UnderInOrder, UnderOnce}
 use Rattle.coverage.specs.Report.{approximation_by, band_by, IntervalRows}
-use Rattle.coverage.specs.Report.{crosses_under, warnings_under, report_under, RowDirect, SingleRow, is_crossing, not_crossing, bare_approximation}
+use Rattle.coverage.specs.Report.{crosses_under, warnings_under, report_under, RowDirect, SingleRow, bare_approximation}
 use Rattle.coverage.specs.Report.{bare_band, RowsAlone}
 use Rattle.definition.specs.declared.Point.{Point}
 use Rattle.definition.specs.declared.Row.{Row}
@@ -193,30 +194,18 @@ map_zip m f [] ys = refl
 map_zip m f (a ∷ xs) [] = refl
 map_zip {D = D} m f (a ∷ xs) (b ∷ ys) = ap (λ (ds : List D). m (f a b) ∷ ds) (map_zip m f xs ys)
 
-not_warn : (b : Bool) (code : TruingUncertaintyWarningCodeV1) (xs ys : List TruingUncertaintyWarningCodeV1) → not_crossing xs ≡ not_crossing ys
-    → not_crossing (warn b code xs) ≡ not_crossing (warn b code ys)
-unfolding not_crossing
-not_warn true code xs ys e = ap (λ (zs : List TruingUncertaintyWarningCodeV1). cond (is_crossing code) zs (code ∷ zs)) e
-not_warn false code xs ys e = e
-
-not_crossing_lem : (x y : Bool) (codes : List TruingUncertaintyWarningCodeV1)
-    → not_crossing (warn x Warning.IntervalCrossesFitBounds codes) ≡ not_crossing (warn y Warning.IntervalCrossesFitBounds codes)
-unfolding not_crossing
-not_crossing_lem true true codes = refl
-not_crossing_lem true false codes = refl
-not_crossing_lem false true codes = refl
-not_crossing_lem false false codes = refl
-
+-- only the code of the crossing goes by how that is judged
 bare_warnings : (x y : Bool) (m : Measured) (f : Fit) (e : Evaluation) (a : Approximation) (d : Diagnostics) (ds : List Requested)
-    → not_crossing (warnings_with x m f e a d ds) ≡ not_crossing (warnings_with y m f e a d ds)
+    → without Warning.IntervalCrossesFitBounds (warnings_with x m f e a d ds) ≡ without Warning.IntervalCrossesFitBounds (warnings_with y m f e a d ds)
 bare_warnings x y m f e a d ds =
-    not_warn (not (converged f.convergence)) Warning.OptimizerDidNotConverge _ _
-    (not_warn (is_mesh f.convergence) Warning.ObjectiveMeshConvergence _ _
-    (not_warn (lt e.bc_sensitivity_ratio least_sensitivity_ratio) Warning.WeakBcSensitivity _ _
-    (not_warn (not (finite e.data_condition_number) || lt largest_condition e.data_condition_number) Warning.IllConditionedData _ _
-    (not_warn (where_available _ a) Warning.MvPriorDominated _ _
-    (not_warn (where_available _ a) Warning.BcPriorDominated _ _
-    (not_warn (is_unavailable a) Warning.GaussianApproximationUnavailable _ _ (not_crossing_lem x y _)))))))
+    let out = Warning.IntervalCrossesFitBounds in
+    without_warn out (not (converged f.convergence)) Warning.OptimizerDidNotConverge _ _
+    (without_warn out (is_mesh f.convergence) Warning.ObjectiveMeshConvergence _ _
+    (without_warn out (lt e.bc_sensitivity_ratio least_sensitivity_ratio) Warning.WeakBcSensitivity _ _
+    (without_warn out (not (finite e.data_condition_number) || lt largest_condition e.data_condition_number) Warning.IllConditionedData _ _
+    (without_warn out (where_available _ a) Warning.MvPriorDominated _ _
+    (without_warn out (where_available _ a) Warning.BcPriorDominated _ _
+    (without_warn out (is_unavailable a) Warning.GaussianApproximationUnavailable _ _ (without_own out x _ ∙ sym (without_own out y _))))))))
 
 -- the bands under a table are those without one, each told by its rows
 pub covered_bands : (t : Table) (c : Finished) → (report_under t c).bands ≡ map (band_by (rows_under t)) (report_of c).bands

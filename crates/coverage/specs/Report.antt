@@ -5,7 +5,7 @@ use Rattle.interval.specs.Interval.{interval_of}
 use Rattle.interval.specs.declared.GaussianIntervalV1.{GaussianIntervalV1}
 use Rattle.definition.specs.Summary.{Approximation, available, unavailable, interval95, BandWith, Band, ReportWith, Finished, Warns, report_with}
 use Rattle.definition.specs.Summary.{where_available, crosses_bounds_of, warned_by, warnings_of}
-use Rattle.definition.specs.Laws.{RisingFrom, Distinct}
+use Rattle.definition.specs.Laws.{RisingFrom, Distinct, without}
 use Rattle.definition.specs.declared.TruingCovarianceV1.{TruingCovarianceV1}
 use Rattle.definition.specs.declared.TruingGaussianApproximationV1.{TruingGaussianApproximationV1}
 use Rattle.definition.specs.declared.TruingApproximationFailureCodeV1.{TruingApproximationFailureCodeV1}
@@ -89,22 +89,6 @@ abbrev pub SingleRow : Type 0
 SingleRow = (c : Finished) → report_under built_in c ≡ report_told (λ g. g ∷ []) warnings_of c
 
 -- a report without the rows of its intervals, of which only stays whether there are any, and without the code of the crossing
-abbrev pub is_crossing : TruingUncertaintyWarningCodeV1 → Bool
-is_crossing Warning.OptimizerDidNotConverge = false
-is_crossing Warning.ObjectiveMeshConvergence = false
-is_crossing Warning.WeakBcSensitivity = false
-is_crossing Warning.IllConditionedData = false
-is_crossing Warning.MvPriorDominated = false
-is_crossing Warning.BcPriorDominated = false
-is_crossing Warning.GaussianApproximationUnavailable = false
-is_crossing Warning.IntervalCrossesFitBounds = true
-is_crossing Warning.LowEffectiveDegreesOfFreedom = false
-is_crossing Warning.PredictionOutsideObservedDomain = false
-
-unfoldable pub not_crossing : List TruingUncertaintyWarningCodeV1 → List TruingUncertaintyWarningCodeV1
-not_crossing [] = []
-not_crossing (code ∷ codes) = cond (is_crossing code) (not_crossing codes) (code ∷ not_crossing codes)
-
 abbrev pub bare_approximation : CoveredApproximation → ApproximationWith (Unit {0})
 bare_approximation (told g) =
     told (record {
@@ -136,7 +120,7 @@ bare p = record {
   diagnostics = p.diagnostics;
   approximation = bare_approximation p.approximation;
   bands = map bare_band p.bands;
-  warnings = not_crossing p.warnings;
+  warnings = without Warning.IntervalCrossesFitBounds p.warnings;
 }
 
 -- Theorem `rows_alone`: two tables give reports that differ in the rows of the intervals and in the code of the crossing alone: no presence of an interval

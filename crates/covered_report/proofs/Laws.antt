@@ -1,9 +1,10 @@
 -- The report under a table beside the one without: the places of its lists, its head, and its warnings with the crossing judged again.
-use Prim.Native.Nat.{ℕ, zero, suc}
+use Prim.Native.Nat.{ℕ}
 use mathlib.Core.Path.{◌≡◌, refl, sym, ap, ◌∙◌}
 use mathlib.Core.Bool.{Bool, true, false, cond, not, ◌||◌}
-use mathlib.Core.List.{List, [], ◌∷◌, map}
-use Rattle.std.specs.Prelude.{None, Some, option_map, slice_get}
+use mathlib.Core.List.{List, [], ◌∷◌}
+use Rattle.std.specs.Prelude.{Option, None, Some, option_map, slice_get}
+use Rattle.std.proofs.lemmas.Option.{slice_get-map}
 use lib.Dec.{ltb, eqb}
 use lib.ListN.{length, length-map}
 use lib.Ieee.{lt}
@@ -18,7 +19,7 @@ use Rattle.coverage.specs.Rows.{Table, rows_under}
 use Rattle.coverage.specs.Report.{approximation_by, band_by, CoveredBand, CoveredReport, crosses_under, warnings_under, report_under}
 use Rattle.definition.specs.Laws.{index_of}
 use Rattle.definition.specs.Meaning.{approximation_says}
-use Rattle.definition.specs.Session.{State, asking, standing, over}
+use Rattle.definition.specs.Session.{State, finished_in}
 use Rattle.coverage.proofs.Report.{covered_bands}
 use Rattle.definition.specs.declared.Evaluation.{Evaluation}
 use Rattle.definition.specs.declared.TruingUncertaintyWarningCodeV1.TheVariants as Warning
@@ -32,29 +33,34 @@ use Rattle.covered_report.specs.Reading.{covered_in, ShowsUnder}
 
 -- ---- the places of the lists
 
-pub results_under : (t : Table) (i : ℕ) (x : State) → place_in (λ (p : Report). p.observations) i (report_in x) ≡ place_in (λ p. p.observations) i (covered_in t x)
+-- of the finished run that stands, if one does
+results_by : (t : Table) (i : ℕ) (c : Option Finished)
+    → place_in (λ (p : Report). p.observations) i (option_map report_of c) ≡ place_in (λ p. p.observations) i (option_map (report_under t) c)
 unfolding report_of report_under
-results_under t i (standing c) = refl
-results_under t i (asking kept r) = refl
-results_under t i over = refl
+results_by t i None = refl
+results_by t i (Some c) = refl
+
+baseline_results_by : (t : Table) (i : ℕ) (c : Option Finished)
+    → place_in baseline_results i (option_map report_of c) ≡ place_in baseline_results i (option_map (report_under t) c)
+unfolding report_of report_under
+baseline_results_by t i None = refl
+baseline_results_by t i (Some c) = refl
+
+bands_by : (t : Table) (i : ℕ) (c : Option Finished) → option_map (band_by (rows_under t)) (place_in (λ (p : Report). p.bands) i (option_map report_of c))
+    ≡ place_in (λ p. p.bands) i (option_map (report_under t) c)
+bands_by t i None = refl
+bands_by t i (Some c) =
+    sym (slice_get-map (band_by (rows_under t)) (report_of c).bands i) ∙ ap (λ (bs : List CoveredBand). slice_get bs i) (sym (covered_bands t c))
+
+pub results_under : (t : Table) (i : ℕ) (x : State) → place_in (λ (p : Report). p.observations) i (report_in x) ≡ place_in (λ p. p.observations) i (covered_in t x)
+results_under t i x = results_by t i (finished_in x)
 
 pub baseline_results_under : (t : Table) (i : ℕ) (x : State) → place_in baseline_results i (report_in x) ≡ place_in baseline_results i (covered_in t x)
-unfolding report_of report_under
-baseline_results_under t i (standing c) = refl
-baseline_results_under t i (asking kept r) = refl
-baseline_results_under t i over = refl
-
-place_map : {A B : Type 0} (f : A → B) (l : List A) (i : ℕ) → slice_get (map f l) i ≡ option_map f (slice_get l i)
-place_map f [] i = refl
-place_map f (a ∷ l) zero = refl
-place_map f (a ∷ l) (suc i) = place_map f l i
+baseline_results_under t i x = baseline_results_by t i (finished_in x)
 
 pub bands_under : (t : Table) (i : ℕ) (x : State)
     → option_map (band_by (rows_under t)) (place_in (λ p. p.bands) i (report_in x)) ≡ place_in (λ p. p.bands) i (covered_in t x)
-bands_under t i (standing c) =
-    sym (place_map (band_by (rows_under t)) (report_of c).bands i) ∙ ap (λ (bs : List CoveredBand). slice_get bs i) (sym (covered_bands t c))
-bands_under t i (asking kept r) = refl
-bands_under t i over = refl
+bands_under t i x = bands_by t i (finished_in x)
 
 -- ---- the warnings
 
@@ -199,13 +205,17 @@ module _ (t : Table) (h : UncertaintyTruingReportV1) (c : Finished) (b : Bool) (
 -- ---- whether one stands
 
 pub absent_under : (t : Table) (x : State) → Shows None (report_in x) → ShowsUnder t None (covered_in t x)
-absent_under t (standing c) d = d
-absent_under t (asking kept r) d = d
-absent_under t over d = d
+absent_under t x = by (finished_in x)
+  where
+    by : (c : Option Finished) → Shows None (option_map report_of c) → ShowsUnder t None (option_map (report_under t) c)
+    by None d = d
+    by (Some c) d = d
 
 pub given_under : (t : Table) (x : State) (h g : UncertaintyTruingReportV1)
     → ((c : Finished) → HeadOf h (report_of c) → HeadWith (approximation_by (rows_under t)) g (report_under t c)) → Shows (Some h) (report_in x)
     → ShowsUnder t (Some g) (covered_in t x)
-given_under t (standing c) h g w d = w c d
-given_under t (asking kept r) h g w d = d
-given_under t over h g w d = d
+given_under t x h g w = by (finished_in x)
+  where
+    by : (c : Option Finished) → Shows (Some h) (option_map report_of c) → ShowsUnder t (Some g) (option_map (report_under t) c)
+    by None d = d
+    by (Some c) d = w c d

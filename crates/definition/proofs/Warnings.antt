@@ -1,10 +1,12 @@
--- A report's warnings stand in the source's order, each once: `warnings_in_order`, `warnings_once`. Assumes nothing.
+-- A report's warnings stand in the source's order, each once: `warnings_in_order`, `warnings_once`; and two lists of them that agree but for one code. Assumes
+-- nothing.
 use Prim.Native.Nat.{ℕ, suc, ◌≤◌, ◌<◌}
-use mathlib.Core.Path.{ap}
-use mathlib.Core.Bool.{Bool, true, false, not, ◌||◌}
+use mathlib.Core.Path.{◌≡◌, refl, ap}
+use mathlib.Core.Bool.{Bool, true, false, cond, not, ◌||◌}
 use mathlib.Core.List.{List, [], ◌∷◌}
 use native.Mathlib.Omega.{arith}
 use lib.ListN.{length}
+use Rattle.std.proofs.Common.{eqb, eq-eqb}
 use lib.Ieee.{lt}
 use Rattle.numeric.specs.Numeric.{finite}
 use Rattle.definition.specs.Constants.{least_sensitivity_ratio, largest_condition}
@@ -14,7 +16,7 @@ use Rattle.definition.specs.Fit.{Fit}
 use Rattle.definition.specs.Summary.{Approximation, Diagnostics, converged, is_mesh, where_available, is_unavailable, at_most_one, is_outside, warn}
 use Rattle.definition.specs.Summary.{approximation_of, diagnostics_of, crosses_of, warnings_with, warnings_of, report_of}
 use Rattle.definition.specs.declared.Evaluation.{Evaluation}
-use Rattle.definition.specs.Laws.{index_of, RisingFrom, NotIn, Distinct, WarningsInOrder, WarningsOnce}
+use Rattle.definition.specs.Laws.{index_of, without, RisingFrom, NotIn, Distinct, WarningsInOrder, WarningsOnce}
 use Rattle.definition.specs.declared.TruingUncertaintyWarningCodeV1.TheVariants as Warning
 use Rattle.definition.specs.declared.TruingUncertaintyWarningCodeV1.{TruingUncertaintyWarningCodeV1}
 
@@ -68,3 +70,17 @@ rising_distinct n (c ∷ cs) r = (rising_not_in c (suc (index_of c)) cs (omega a
 
 pub warnings_once : WarningsOnce
 warnings_once c = rising_distinct 0 _ (warnings_in_order c)
+
+-- ---- but for one code
+
+-- a code in front of both lists
+pub without_warn : (out : TruingUncertaintyWarningCodeV1) (b : Bool) (code : TruingUncertaintyWarningCodeV1) (xs ys : List TruingUncertaintyWarningCodeV1)
+    → without out xs ≡ without out ys → without out (warn b code xs) ≡ without out (warn b code ys)
+without_warn out true code xs ys e =
+    ap (λ (zs : List TruingUncertaintyWarningCodeV1). cond (not (eqb (index_of code) (index_of out))) (code ∷ zs) zs) e
+without_warn out false code xs ys e = e
+
+-- the code itself in front, or not
+pub without_own : (out : TruingUncertaintyWarningCodeV1) (b : Bool) (xs : List TruingUncertaintyWarningCodeV1) → without out (warn b out xs) ≡ without out xs
+without_own out true xs = rw (eq-eqb (index_of out) (index_of out) refl)
+without_own out false xs = refl

@@ -2,7 +2,7 @@
 -- Polls.antt, Fits.antt, Warnings.antt, Ranges.antt, Presence.antt. That the fit, the evaluation at the fit and the baseline do not see the requested distances
 -- needs no theorem: `fit_map`, `evaluate` and `baseline` take no list of them (Fit.antt, Likelihood.antt, Whole.antt), and `run` hands `fit_map` the `Measured`
 -- alone.
-use Rattle.std.specs.Prelude.{ℕ, zero, suc, ◌+◌, ◌≤◌, ◌≡◌, Bool, true, false, List, [], ◌∷◌, ◌⊎◌, ◌↔◌, eqb, Float, Some}
+use Rattle.std.specs.Prelude.{ℕ, zero, suc, ◌+◌, ◌≤◌, ◌≡◌, Bool, true, false, not, List, [], ◌∷◌, filter, ◌⊎◌, ◌↔◌, eqb, Float, Some}
 use Rattle.std.specs.Float.{nan}
 use Rattle.std.specs.Float.Ieee.{neg, le}
 use Rattle.numeric.specs.Numeric.{zero64, one64, two64, finite}
@@ -130,6 +130,10 @@ index_of Warning.GaussianApproximationUnavailable = 6
 index_of Warning.IntervalCrossesFitBounds = 7
 index_of Warning.LowEffectiveDegreesOfFreedom = 8
 index_of Warning.PredictionOutsideObservedDomain = 9
+
+-- the codes but this one
+abbrev pub without : TruingUncertaintyWarningCodeV1 → List TruingUncertaintyWarningCodeV1 → List TruingUncertaintyWarningCodeV1
+without code codes = filter (λ c. not (eqb (index_of c) (index_of code))) codes
 
 -- the places rise strictly, the first being n or more
 unfoldable pub RisingFrom : ℕ → List TruingUncertaintyWarningCodeV1 → Type 0

@@ -44,6 +44,12 @@ pub data State : Type 0 where
   standing : Finished → State
   over : State
 
+-- the finished run that stands: none while a question is open, and none where the run was refused
+abbrev pub finished_in : State → Option Finished
+finished_in (asking kept t) = None
+finished_in (standing c) = Some c
+finished_in over = None
+
 -- where a run leads that starts with this finished run kept: a refusal restores it
 abbrev pub after : Option Finished → Run Finished → State
 after kept (done c) = standing c

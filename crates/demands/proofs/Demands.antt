@@ -6,16 +6,16 @@ use Rattle.definition.specs.Run.{Run, done, refuse, ask, bind, Entry, Reply, ref
 use Rattle.definition.specs.Host.{questions}
 use Rattle.definition.specs.Likelihood as likelihood
 use Rattle.definition.specs.Fit as fit
-use Rattle.definition.specs.Summary.{Finished, Report}
+use Rattle.definition.specs.Summary.{Finished, Report, report_of}
 use Rattle.coverage.specs.Rows.{Table, rows_under}
-use Rattle.coverage.specs.Report.{band_by, CoveredReport}
+use Rattle.coverage.specs.Report.{band_by, CoveredReport, report_under}
 use Rattle.definition.specs.Whole.{Edit, put_in, take_out, exchange, placed, edit, whole, run, checked_measured, checked_requested}
 use Rattle.definition.specs.Laws.{Asks, put}
 use Rattle.definition.specs.declared.Point.{Point}
 use Rattle.definition.proofs.Questions.{asks_now, asks_next, asks_edit, every_new, count, count_of_edit}
 use Rattle.fitting.proofs.Laws.{bind_assoc}
 use Rattle.fresh_outcome.specs.Solver.{Solver, host_of}
-use Rattle.definition.specs.Session.{State, standing, Said, says_of, head, more_of, counted, Sizes, sizes_for, wants, Sized, either}
+use Rattle.definition.specs.Session.{State, standing, finished_in, Said, says_of, head, more_of, counted, Sizes, sizes_for, wants, Sized, either}
 use Rattle.definition.specs.declared.Distances.{Distances}
 use Rattle.definition.specs.Session as meaning
 use Rattle.report.specs.Reading.{Shows, place_in, baseline_results, report_in}
@@ -25,7 +25,6 @@ use Rattle.editing.specs.Meaning.{state, seen}
 use Rattle.editing.specs.declared.Session.{Session}
 use Rattle.editing.specs.Meaning.{Answer}
 use Rattle.demands.specs.Calls.{Call, reply, refuse_point, change, resume, Editing, At, first, rest_by, rest_at, kept_by, finished_by, finished_at}
-use Rattle.demands.specs.Calls.{report_by, covered_by}
 use Rattle.demands.specs.Calls.{Taking, declines, takes, taking_reply, taking_refusal, taking_edit, stance, with_reply, with_edit, after_taken, unless_declined}
 use Rattle.demands.specs.Calls.{after_call, due, due_to}
 use Rattle.demands.specs.Book.{heard, opened, Ends, standing_run as standsWith, Holds, Trail, begun, followed}
@@ -153,25 +152,21 @@ reads_under t s p same = record {
       ∙ ap (place_in (λ q. q.bands) i) same;
 }
 
-pub report_after : (kept : Option Finished) (t : Run Finished) → report_in (meaning.after kept t) ≡ report_by (finished_by kept t)
-report_after kept (done c) = refl
-report_after None (refuse n i) = refl
-report_after (Some c) (refuse n i) = refl
-report_after kept (ask p w k) = refl
-
-pub covered_after : (t : Table) (kept : Option Finished) (r : Run Finished) → covered_in t (meaning.after kept r) ≡ covered_by t (finished_by kept r)
-covered_after t kept (done c) = refl
-covered_after t None (refuse n i) = refl
-covered_after t (Some c) (refuse n i) = refl
-covered_after t kept (ask p w k) = refl
+pub finished_after : (kept : Option Finished) (t : Run Finished) → finished_in (meaning.after kept t) ≡ finished_by kept t
+finished_after kept (done c) = refl
+finished_after None (refuse n i) = refl
+finished_after (Some c) (refuse n i) = refl
+finished_after kept (ask p w k) = refl
 
 -- ---- the invariant
 
 inv_reads : (o : Opening) (t : At) (s : Session) → Inv o t s → ReadsAs s (finished_at o t)
-inv_reads o t s h = record {
-  plain = reads_plain s (report_by (finished_at o t)) (ap report_in h.leads ∙ report_after (kept_by t.last) (rest_at o t));
-  under = λ x. reads_under x s (covered_by x (finished_at o t)) (ap (covered_in x) h.leads ∙ covered_after x (kept_by t.last) (rest_at o t));
-}
+inv_reads o t s h =
+    let same : finished_in (state s) ≡ finished_at o t = ap finished_in h.leads ∙ finished_after (kept_by t.last) (rest_at o t) in
+    record {
+      plain = reads_plain s (option_map report_of (finished_at o t)) (ap (option_map report_of) same);
+      under = λ x. reads_under x s (option_map (report_under x) (finished_at o t)) (ap (option_map (report_under x)) same);
+    }
 
 news_edit : (c : Finished) (e : Edit) → Asks IsNew 5 (edit c e)
 news_edit c e = asks_edit c e (every_new IsNew (λ p x. tt) e)

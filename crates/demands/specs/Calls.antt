@@ -2,9 +2,7 @@
 use Rattle.std.specs.Prelude.{ℕ, cond, List, [], ◌∷◌, ◌++◌, length, Option, None, Some, eqb}
 use Rattle.definition.specs.Request.{Opening}
 use Rattle.definition.specs.Run.{Run, done, refuse, ask, Entry, Reply, refused, entries}
-use Rattle.definition.specs.Summary.{Finished, Report, report_of}
-use Rattle.coverage.specs.Rows.{Table}
-use Rattle.coverage.specs.Report.{CoveredReport, report_under}
+use Rattle.definition.specs.Summary.{Finished}
 use Rattle.definition.specs.Whole.{whole, Edit, placed, edit}
 use Rattle.definition.specs.Session.{Said, head, Sizes, sizes_for, wants}
 
@@ -59,15 +57,6 @@ finished_by kept (ask p w k) = None
 
 abbrev pub finished_at : Opening → At → Option Finished
 finished_at o t = finished_by (kept_by t.last) (rest_at o t)
-
-abbrev pub report_by : Option Finished → Option Report
-report_by None = None
-report_by (Some c) = Some (report_of c)
-
--- its report under a table
-abbrev pub covered_by : Table → Option Finished → Option CoveredReport
-covered_by t None = None
-covered_by t (Some c) = Some (report_under t c)
 
 -- ---- a call
 

@@ -21,7 +21,7 @@ use Rattle.report.specs.Reading.{Shows, place_in, baseline_results, ReportRead, 
 use Rattle.covered_report.specs.Reading.{ShowsUnder, ReportReadUnder}
 use Rattle.editing.specs.declared.Session.{Session}
 use Rattle.editing.specs.Meaning.{Answer}
-use Rattle.demands.specs.Calls.{Call, reply, refuse_point, change, Editing, At, first, rest_at, finished_at, report_by, covered_by, declines, takes}
+use Rattle.demands.specs.Calls.{Call, reply, refuse_point, change, Editing, At, first, rest_at, finished_at, declines, takes}
 use Rattle.demands.specs.Calls.{stance, unless_declined, after_call, due_to}
 use Rattle.demands.specs.Book.{heard, opened, ruled, Ends, Edits, standing_run, Holds, Trail, begun, followed, FromSolver}
 
@@ -69,8 +69,8 @@ pub record ReadsUnder (t : Table) (s : Session) (p : Option CoveredReport) : Typ
 
 -- what is read is the report of this finished run, without a table and under every one; or that there is none
 pub record ReadsAs (s : Session) (c : Option Finished) : Type 0 where
-  pub plain : ReadsPlain s (report_by c)
-  pub under : (t : Table) → ReadsUnder t s (covered_by t c)
+  pub plain : ReadsPlain s (option_map report_of c)
+  pub under : (t : Table) → ReadsUnder t s (option_map (report_under t) c)
 
 -- what the call that reads the count of questions gives
 abbrev pub count : Session → ℕ

@@ -6,7 +6,7 @@ use Rattle.definition.specs.Request.{Requested}
 use Rattle.definition.specs.Likelihood.{Rows}
 use Rattle.definition.specs.Summary.{Finished, Report}
 use Rattle.definition.specs.Whole.{Edit, take_out, placed, renewed, sound_requested_of, edit_questions, edit}
-use Rattle.definition.specs.Session.{Said, question, report, refusal, head, State, asking, standing, over, after, Sizes, wants, either, Stands, Declines}
+use Rattle.definition.specs.Session.{Said, question, report, refusal, head, State, asking, standing, over, finished_in, after, Sizes, wants, either, Stands, Declines}
 use Rattle.definition.specs.Session.{entries_taken, refusal_taken, Replied, PointRefused, Edited}
 use Rattle.definition.proofs.Calls.{reply_wrong, reply_taken, refusal_taken_lem, edit_taken_lem}
 use Rattle.definition.specs.declared.Point.{Point}
@@ -21,8 +21,8 @@ use Rattle.lists.specs.declared.Change.{Change}
 use Rattle.lists.specs.declared.Change.TheVariants.{PutIn, TakeOut, Exchange}
 use Rattle.report.specs.Reading.{place_in, report_in}
 use Rattle.session.specs.Meaning as run
-use Rattle.session.specs.Meaning.{sizes_of}
-use Rattle.session.specs.Changing.{fitted_in, changed_from, Changed}
+use Rattle.run_body.specs.Meaning.{sizes_of}
+use Rattle.finished_run.specs.Changing.{fitted_in, changed_from, Changed}
 use Rattle.session.specs.declared.Session.{Session as Running}
 use Rattle.editing.specs.Meaning.{range_in, opens, ended_with, edit_left, open_in, open_point, state_by, state, seen, asks_with, newly, row_from, next_left}
 use Rattle.editing.specs.declared.OpenEdit.{OpenEdit}
@@ -52,21 +52,20 @@ open_state : (c : Finished) (x : OpenEdit) → Fits c x.change → open_in (stan
 open_state c x f = rw (f, edit_asks c x)
 
 -- while an edit has a question open, no finished run stands
-unfinished : (t : State) (x : OpenEdit) → (fitted_in (open_in t x) ≡ None) × (report_in (open_in t x) ≡ None)
-unfinished (asking kept t) x = (refl, refl)
-unfinished over x = (refl, refl)
+pub unfinished : (t : State) (x : OpenEdit) → finished_in (open_in t x) ≡ None
+unfinished (asking kept t) x = refl
+unfinished over x = refl
 unfinished (standing c) x = by (opens (edit_of x.change) (length c.requested)) refl
   where
-    by : (b : Bool) → opens (edit_of x.change) (length c.requested) ≡ b
-        → (fitted_in (open_in (standing c) x) ≡ None) × (report_in (open_in (standing c) x) ≡ None)
-    by true f = rw (open_state c x f) (refl, refl)
-    by false f = rw f (refl, refl)
+    by : (b : Bool) → opens (edit_of x.change) (length c.requested) ≡ b → finished_in (open_in (standing c) x) ≡ None
+    by true f = rw (open_state c x f)
+    by false f = rw f
 
 pub unfitted : (t : State) (x : OpenEdit) → fitted_in (open_in t x) ≡ None
-unfitted t x = (unfinished t x).0
+unfitted t x = rw (unfinished t x)
 
 pub unreported : (t : State) (x : OpenEdit) → report_in (open_in t x) ≡ None
-unreported t x = (unfinished t x).1
+unreported t x = rw (unfinished t x)
 
 pub unread : {A : Type 0} (f : Report → List A) (i : ℕ) (t : State) (x : OpenEdit) → place_in f i (report_in (open_in t x)) ≡ None
 unread f i t x = rw (unreported t x)

@@ -17,6 +17,7 @@ use Rattle.stencil.specs.declared.StencilPoint.TheVariants.{Nominal}
 use Rattle.stencil.specs.declared.StencilRows.{StencilRows}
 use Rattle.lists.specs.Changing.{edit_of, place_of, entry_in, roomy}
 use Rattle.lists.specs.declared.Change.{Change}
+use Rattle.run_body.specs.Meaning.{sizes_of}
 use Rattle.session.specs.Meaning as run
 use Rattle.session.specs.declared.Answer as run_answer
 use Rattle.session.specs.declared.Session.{Session as Running}
@@ -63,7 +64,7 @@ state s = state_by s.run s.edit
 
 -- what a session shows of itself
 abbrev pub seen : Session → Seen
-seen s = record { state = state s; sizes = run.sizes_of s.run.body; asked = s.run.asked }
+seen s = record { state = state s; sizes = sizes_of s.run.body; asked = s.run.asked }
 
 -- ---- the answers by their fields
 

@@ -12,8 +12,8 @@ ghost use Rattle.stencil.specs.Stencil.{all_rows};
 ghost use Rattle.lists.specs.Changing.{edit_of, entry_in};
 ghost use Rattle.report.specs.Reading.{ReportRead, ResultRead, BaselineResultRead, BandRead};
 ghost use Rattle.session.specs.Meaning as running;
-ghost use Rattle.session.specs.Meaning.{sizes_of};
-ghost use Rattle.session.specs.Changing.{fitted_in};
+ghost use Rattle.run_body.specs.Meaning.{sizes_of};
+ghost use Rattle.finished_run.specs.Changing.{fitted_in};
 ghost use Rattle.editing.specs.Meaning.{opens, state, seen, of_run, closed_with, asks_with, asked_at, newly, open_point, row_from};
 ghost use Rattle.editing.specs.Meaning.{next_left};
 
@@ -98,7 +98,7 @@ fn asks(run: session::Session, asking: OpenEdit, p: Point) -> Answer
 fn open_point(run: session::Session, change: Change) -> Option<Point>
     ensures { result ≡ open_point (fitted_in (running.state run)) (edit_of change) }
 {
-    let (p, n) = session::fit_of(run)?;
+    let (p, n) = finished_run::fit_of(run)?;
     let opens = change.is_placed(n) & (change.has_room(n) & change.entry().is_some());
     if opens { Some(p) } else { None }
 }
@@ -132,7 +132,7 @@ fn after_reply(
         };
         return asks(run, next, question.at(p));
     }
-    let next = session::changed(run, change, row_of(row));
+    let next = finished_run::changed(run, change, row_of(row));
     if row.gap != 0 {
         return closed_with(run, refused(RefusalCode::DistanceMissing, change.place()));
     }
@@ -217,7 +217,7 @@ fn standing_fit(s: Session) -> Option<(Point, usize)>
     ensures { result ≡ fitted_in (state s) }
 {
     match s.edit {
-        None => session::fit_of(s.run),
+        None => finished_run::fit_of(s.run),
         Some(_) => None,
     }
 }
@@ -278,7 +278,7 @@ pub fn take_out(s: Session, place: usize) -> Answer
         d_drop_d_mv: 0.0,
         d_drop_d_bc: 0.0,
     };
-    let shorter = session::changed(s.run, change, row);
+    let shorter = finished_run::changed(s.run, change, row);
     closed_with(shorter, Step::Report)
 }
 
@@ -304,7 +304,7 @@ pub fn report(s: Session) -> Option<UncertaintyTruingReportV1>
     ensures { ReportRead (state s) result }
 {
     match s.edit {
-        None => session::report(s.run),
+        None => finished_run::report(s.run),
         Some(_) => None,
     }
 }
@@ -315,7 +315,7 @@ pub fn observation_result(s: Session, i: usize) -> Option<WeightedTruingObservat
     ensures { ResultRead (state s) i result }
 {
     match s.edit {
-        None => session::observation_result(s.run, i),
+        None => finished_run::observation_result(s.run, i),
         Some(_) => None,
     }
 }
@@ -326,7 +326,7 @@ pub fn baseline_result(s: Session, i: usize) -> Option<WeightedTruingObservation
     ensures { BaselineResultRead (state s) i result }
 {
     match s.edit {
-        None => session::baseline_result(s.run, i),
+        None => finished_run::baseline_result(s.run, i),
         Some(_) => None,
     }
 }
@@ -337,7 +337,7 @@ pub fn predictive_band(s: Session, i: usize) -> Option<TruingPredictiveBandV1>
     ensures { BandRead (state s) i result }
 {
     match s.edit {
-        None => session::predictive_band(s.run, i),
+        None => finished_run::predictive_band(s.run, i),
         Some(_) => None,
     }
 }

@@ -14,13 +14,15 @@ use Rattle.definition.specs.Likelihood.{Rows, row_of, rows_of, evaluation_of}
 use Rattle.definition.specs.Fit.{Fit}
 use Rattle.definition.specs.Summary.{converged, Approximation, approximation_of, Diagnostics, diagnostics_of, BandWith, Band, band_of, is_outside, dominated_of}
 use Rattle.definition.specs.Summary.{is_mesh, where_available, is_unavailable, at_most_one, warn, warnings_with, warned_by, ReportWith, Finished, report_with}
+use Rattle.definition.specs.Laws.{without}
+use Rattle.definition.proofs.Warnings.{without_warn, without_own}
 use Rattle.definition.specs.Whole.{Edit, put_in, take_out, exchange, edited}
 use Rattle.definition.specs.declared.Point.{Point}
 use Rattle.definition.specs.declared.Row.{Row}
 use Rattle.definition.specs.declared.Evaluation.{Evaluation}
 use Rattle.definition.specs.declared.TruingUncertaintyWarningCodeV1.TheVariants as Warning
 use Rattle.definition.specs.declared.TruingUncertaintyWarningCodeV1.{TruingUncertaintyWarningCodeV1}
-use Rattle.fresh_outcome.specs.Solver.{Solver, distances_of, is_domain, without, BandEdited, BandAlone, OnlyBand}
+use Rattle.fresh_outcome.specs.Solver.{Solver, distances_of, BandEdited, BandAlone, OnlyBand}
 use Rattle.fresh_outcome.proofs.Lists.{zip_map, zip3_maps, map_insert, map_remove}
 use Rattle.fresh_outcome.proofs.Rows.{drop_at, mv_slope_at, bc_slope_at, rows_with}
 use Rattle.fresh_outcome.proofs.Runs.{finished_at, came, again_ends}
@@ -58,55 +60,22 @@ module _ {I : Type 0} (tell : Band → BandWith I) (kept : (b : Band) → (tell 
 
 -- ---- the warnings
 
--- a code with its test
-record Tested : Type 0 where
-  pub test : Bool
-  pub code : TruingUncertaintyWarningCodeV1
-
-abbrev tested : Bool → TruingUncertaintyWarningCodeV1 → Tested
-tested b code = record { test = b; code = code }
-
--- the codes whose tests pass, and then others
-abbrev warned : List Tested → List TruingUncertaintyWarningCodeV1 → List TruingUncertaintyWarningCodeV1
-warned [] codes = codes
-warned (t ∷ ts) codes = warn t.test t.code (warned ts codes)
-
-without_warn : (b : Bool) (code : TruingUncertaintyWarningCodeV1) (xs ys : List TruingUncertaintyWarningCodeV1) → without xs ≡ without ys
-    → without (warn b code xs) ≡ without (warn b code ys)
-without_warn true code xs ys e = ap (λ (zs : List TruingUncertaintyWarningCodeV1). cond (is_domain code) zs (code ∷ zs)) e
-without_warn false code xs ys e = e
-
-without_warned : (ts : List Tested) (xs ys : List TruingUncertaintyWarningCodeV1) → without xs ≡ without ys → without (warned ts xs) ≡ without (warned ts ys)
-without_warned [] xs ys e = e
-without_warned (t ∷ ts) xs ys e = without_warn t.test t.code (warned ts xs) (warned ts ys) (without_warned ts xs ys e)
-
-abbrev domain : Bool → List TruingUncertaintyWarningCodeV1
-domain b = warn b Warning.PredictionOutsideObservedDomain []
-
-without_domain : (b : Bool) → without (domain b) ≡ []
-without_domain true = refl
-without_domain false = refl
-
--- the nine that do not look at the requested distances
-abbrev nine : Bool → Measured → Fit → Evaluation → Approximation → Diagnostics → List Tested
-nine crosses m f e a d =
-    tested (not (converged f.convergence)) Warning.OptimizerDidNotConverge
-    ∷ tested (is_mesh f.convergence) Warning.ObjectiveMeshConvergence
-    ∷ tested (lt e.bc_sensitivity_ratio least_sensitivity_ratio) Warning.WeakBcSensitivity
-    ∷ tested (not (finite e.data_condition_number) || lt largest_condition e.data_condition_number) Warning.IllConditionedData
-    ∷ tested (where_available (λ g. dominated_of m.priors.muzzle_velocity_fps g.covariance.mv_variance_fps2) a) Warning.MvPriorDominated
-    ∷ tested (where_available (λ g. dominated_of m.priors.ballistic_coefficient g.covariance.bc_variance) a) Warning.BcPriorDominated
-    ∷ tested (is_unavailable a) Warning.GaussianApproximationUnavailable
-    ∷ tested crosses Warning.IntervalCrossesFitBounds
-    ∷ tested (at_most_one d.effective_degrees_of_freedom) Warning.LowEffectiveDegreesOfFreedom
-    ∷ []
-
+-- only the one about the requested distances looks at them
 warnings_same : (crosses : Bool) (m : Measured) (f : Fit) (e : Evaluation) (a : Approximation) (d : Diagnostics) (l k : List Requested)
-    → without (warnings_with crosses m f e a d k) ≡ without (warnings_with crosses m f e a d l)
+    → without Warning.PredictionOutsideObservedDomain (warnings_with crosses m f e a d k)
+    ≡ without Warning.PredictionOutsideObservedDomain (warnings_with crosses m f e a d l)
 warnings_same crosses m f e a d l k =
-    let x = any (is_outside m.observations) k in
-    let y = any (is_outside m.observations) l in
-    without_warned (nine crosses m f e a d) (domain x) (domain y) (without_domain x ∙ sym (without_domain y))
+    let out = Warning.PredictionOutsideObservedDomain in
+    without_warn out (not (converged f.convergence)) Warning.OptimizerDidNotConverge _ _
+    (without_warn out (is_mesh f.convergence) Warning.ObjectiveMeshConvergence _ _
+    (without_warn out (lt e.bc_sensitivity_ratio least_sensitivity_ratio) Warning.WeakBcSensitivity _ _
+    (without_warn out (not (finite e.data_condition_number) || lt largest_condition e.data_condition_number) Warning.IllConditionedData _ _
+    (without_warn out (where_available _ a) Warning.MvPriorDominated _ _
+    (without_warn out (where_available _ a) Warning.BcPriorDominated _ _
+    (without_warn out (is_unavailable a) Warning.GaussianApproximationUnavailable _ _
+    (without_warn out crosses Warning.IntervalCrossesFitBounds _ _
+    (without_warn out (at_most_one d.effective_degrees_of_freedom) Warning.LowEffectiveDegreesOfFreedom _ _
+    (without_own out (any (is_outside m.observations) k) [] ∙ sym (without_own out (any (is_outside m.observations) l) []))))))))))
 
 -- ---- the theorem
 

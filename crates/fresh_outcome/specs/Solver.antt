@@ -7,10 +7,10 @@ use Rattle.definition.specs.Request.{Requested, Opening}
 use Rattle.definition.specs.Run.{Entry, Reply, refused, entries, shots, distances, new}
 use Rattle.definition.specs.Host.{Outcome, ends, Host, play}
 use Rattle.definition.specs.Summary.{Approximation, Finished, BandWith, Band, ReportWith, warned_by, report_with, ranges_of}
+use Rattle.definition.specs.Laws.{without}
 use Rattle.definition.specs.Whole.{whole, Edit, put_in, take_out, exchange, edited, placed, edit}
 use Rattle.definition.specs.declared.Point.{Point}
 use Rattle.definition.specs.declared.TruingUncertaintyWarningCodeV1.TheVariants as Warning
-use Rattle.definition.specs.declared.TruingUncertaintyWarningCodeV1.{TruingUncertaintyWarningCodeV1}
 
 -- ---- solvers
 
@@ -62,24 +62,6 @@ ListKept = (σ : Solver) (o : Opening) (l : List Requested) (c : Finished) → f
 
 -- ---- what an edit changes in a report
 
--- the one warning about the requested distances
-abbrev pub is_domain : TruingUncertaintyWarningCodeV1 → Bool
-is_domain Warning.OptimizerDidNotConverge = false
-is_domain Warning.ObjectiveMeshConvergence = false
-is_domain Warning.WeakBcSensitivity = false
-is_domain Warning.IllConditionedData = false
-is_domain Warning.MvPriorDominated = false
-is_domain Warning.BcPriorDominated = false
-is_domain Warning.GaussianApproximationUnavailable = false
-is_domain Warning.IntervalCrossesFitBounds = false
-is_domain Warning.LowEffectiveDegreesOfFreedom = false
-is_domain Warning.PredictionOutsideObservedDomain = true
-
--- the warnings without it
-abbrev pub without : List TruingUncertaintyWarningCodeV1 → List TruingUncertaintyWarningCodeV1
-without [] = []
-without (code ∷ codes) = cond (is_domain code) (without codes) (code ∷ without codes)
-
 -- the bands before and after: one, of the new distance, is put in at the place, or stands there for the old one; or the one there is taken out
 abbrev pub BandEdited : {I : Type 0} → Edit → List (BandWith I) → List (BandWith I) → Type 0
 BandEdited {I} (put_in i d) before after = (band : BandWith I) × (band.range ≡ d.range_yd) × (after ≡ insert_at (i - 1) band before)
@@ -98,7 +80,7 @@ pub record BandAlone {A I : Type 0} (e : Edit) (before after : ReportWith A I) :
   pub diagnostics : after.diagnostics ≡ before.diagnostics
   pub approximation : after.approximation ≡ before.approximation
   pub bands : BandEdited e before.bands after.bands
-  pub warnings : without after.warnings ≡ without before.warnings
+  pub warnings : without Warning.PredictionOutsideObservedDomain after.warnings ≡ without Warning.PredictionOutsideObservedDomain before.warnings
 
 -- Theorem `only_band`: between the reports of a list and of the edited list only the band at the place, and the warning about the requested distances, can
 -- differ; in whatever way a report tells its approximation and its bands, whose ranges stay, and judges the crossing.

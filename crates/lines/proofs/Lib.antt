@@ -1,6 +1,6 @@
 -- The laws behind the functions' proofs, and the theorem that a line read word by word is the line.
 pub mod Words
-pub mod Pushing
+pub mod AfterFirst
 pub mod Parentheses
 pub mod Long
 pub mod Track

@@ -2,7 +2,7 @@
 use Rattle.std.specs.Prelude.{ℕ, ◌≤◌, ◌≡◌, List, [], length, Option, None, Some, slice_get, option_map}
 use Rattle.definition.specs.Summary.{Approximation, ReportWith, Report, report_of}
 use Rattle.definition.specs.Summary as summary
-use Rattle.definition.specs.Session.{State, asking, standing, over}
+use Rattle.definition.specs.Session.{State, finished_in}
 use Rattle.bands.specs.declared.TruingPredictiveBandV1.{TruingPredictiveBandV1}
 use Rattle.bands.specs.Bands.{band_says}
 use Rattle.definition.specs.declared.WeightedTruingObservationResultV1.{WeightedTruingObservationResultV1}
@@ -44,11 +44,9 @@ baseline_results p = of_baseline p.baseline
 
 -- ---- the calls that read, by where a session stands
 
--- the report that stands: none while a question is open, and none where the run was refused
+-- the report that stands
 abbrev pub report_in : State → Option Report
-report_in (standing c) = Some (report_of c)
-report_in (asking kept t) = None
-report_in over = None
+report_in x = option_map report_of (finished_in x)
 
 pub record ReportRead (x : State) (r : Option UncertaintyTruingReportV1) : Type 0 where
   pub is : Shows r (report_in x)

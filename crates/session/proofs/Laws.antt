@@ -1,7 +1,6 @@
 -- A session within its limits and beyond them, over plain values. The functions' proofs cite these. Assumes nothing.
-use Rattle.std.proofs.Common.{ℕ, ◌≤◌, ◌≡◌, refl, sym, ap, ◌∙◌, subst, Bool, true, false, Option, None, Some}
-use Rattle.std.proofs.lemmas.Bool.{and_parts, leb-true}
-use Rattle.std.specs.Prelude.{cond, leb}
+use Rattle.std.proofs.Common.{ℕ, ◌≡◌, refl, sym, ap, ◌∙◌, subst, Bool, true, false, Option, None, Some}
+use Rattle.std.specs.Prelude.{cond}
 use Rattle.definition.specs.Run.{Run, done, refuse, ask, Which, shots, distances, new}
 use Rattle.definition.specs.Summary.{Finished}
 use Rattle.definition.specs.Session.{standing, over, head, Said, counted, list_of, wants}
@@ -10,17 +9,13 @@ use Rattle.definition.proofs.Calls.{Closed}
 use Rattle.phases.specs.Phases.{state_at, plan_of, finished_of}
 use Rattle.phases.specs.declared.Phase.TheVariants.{Over}
 use Rattle.phases.proofs.Taken.{Open, open_state, closed_state}
-use Rattle.session.specs.Meaning.{held_of, within_of, sizes_of, state, wanted_by, counted_by}
-use Rattle.session.specs.declared.Body.{Body}
+use Rattle.run_body.specs.Meaning.{held_of, within_of, sizes_of}
+use Rattle.run_body.specs.declared.Body.{Body}
+use Rattle.run_body.specs.Meaning.{wanted_by}
+use Rattle.session.specs.Meaning.{state, counted_by}
 use Rattle.session.specs.declared.Session.{Session}
 
 -- ---- the limits
-
-pub shots_within : (b : Body) → within_of b ≡ true → b.shots.n ≤ 64
-shots_within b h = leb-true b.shots.n 64 (and_parts (leb b.shots.n 64) (leb b.wanted.n 64) h).0
-
-pub wanted_within : (b : Body) → within_of b ≡ true → b.wanted.n ≤ 64
-wanted_within b h = leb-true b.wanted.n 64 (and_parts (leb b.shots.n 64) (leb b.wanted.n 64) h).1
 
 pub state_within : (s : Session) → within_of s.body ≡ true → state s ≡ state_at (held_of s.body) s.phase
 state_within s h = rw h

@@ -1,6 +1,4 @@
 pub mod Laws
-pub mod Reading
 pub mod Opens
 pub mod Refusals
-pub mod Changes
-pub mod Laid
+pub mod Replies

@@ -19,8 +19,9 @@ use Rattle.lists.proofs.Arrays.{shots_measured, wanted_requested}
 use Rattle.opening.specs.Opening.{checked_of}
 use Rattle.opening.proofs.Laws.{measured_count, requested_count, checked_parts}
 use Rattle.phases.specs.declared.Phase.TheVariants.{Over, Start}
-use Rattle.session.specs.Meaning.{measured_of, within_of, sizes_of, seen, Prepared}
-use Rattle.session.specs.declared.Body.{Body}
+use Rattle.run_body.specs.Meaning.{measured_of, within_of, sizes_of, Prepared}
+use Rattle.session.specs.Meaning.{seen}
+use Rattle.run_body.specs.declared.Body.{Body}
 use Rattle.session.proofs.Laws.{state_within, state_over}
 
 -- the first question of a run, and its count

@@ -8,7 +8,8 @@ use Rattle.phases.specs.declared.Lays.{Lays}
 use Rattle.phases.specs.declared.Lays.TheVariants.{Baseline as Drops}
 use Rattle.phases.specs.declared.Phase.TheVariants.{Over, Ended}
 use Rattle.phases.proofs.Taken.{continue_at, refused_by, refusal_ends}
-use Rattle.session.specs.Meaning.{held_of, state, seen}
+use Rattle.run_body.specs.Meaning.{held_of}
+use Rattle.session.specs.Meaning.{state, seen}
 use Rattle.session.specs.declared.Session.{Session}
 use Rattle.session.proofs.Laws.{state_within, state_over, closed, asks_in, open_within, open_in}
 

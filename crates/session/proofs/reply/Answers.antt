@@ -1,8 +1,9 @@
 -- `reply`: what its steps give.
 use Rattle.std.proofs.Common.{◌≡◌, rules, length, Some, arith}
-use Rattle.session.specs.Meaning.{wanted_by}
+use Rattle.run_body.specs.Meaning.{wanted_by}
 use Rattle.session.proofs.Laws.{asks_in}
-use Rattle.session.proofs.Laid.{Full, replied_taken}
+use Rattle.run_body.proofs.Laid.{Full}
+use Rattle.session.proofs.Replies.{replied_taken}
 use Rattle.session.proofs.reply.Goals as goal
 
 pub returns : goal.returns

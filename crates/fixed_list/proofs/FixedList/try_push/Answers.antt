@@ -1,4 +1,4 @@
-use Rattle.std.proofs.Common.{rules, ◌-◌, ◌<◌, false, arith}
+use Rattle.std.proofs.Common.{◌<◌, arith}
 use lib.ListN.{length-set}
 use Rattle.fixed_list.proofs.Places.{blank_behind}
 use Rattle.fixed_list.proofs.FixedList.try_push.Goals as goal

@@ -1,6 +1,6 @@
 -- `stream::Reader::push` meets its contract. Assumes nothing.
 use borrow.Author.Tests.{eq-eqb, ne_eqb}
-use Rattle.requests.proofs.Kept.{pushed}
+use Rattle.fixed_list.proofs.Pushed.{pushed_first}
 use Rattle.stream.specs.Bytes.{uncut, cut_from}
 use Rattle.stream.proofs.Bytes.{reads_blank, reads_more}
 use Rattle.stream.proofs.Reader.push.Goals as goal
@@ -14,4 +14,4 @@ returns-else-c-eq32 c = λ s k.
     let h = c.args.self.now in
     let e = c.try_push.ensures in
     reads_more h s k c.args.c c.try_push.new.self (ne_eqb c.args.c 32 c.if-c-eq32.false)
-    (pushed 32 h.word c.try_push.new.self c.args.c c.try_push.result (cut_from uncut s).word e.variant e.ok e.err e.full k.word)
+    (pushed_first 32 h.word c.try_push.new.self c.args.c c.try_push.result (cut_from uncut s).word e.variant e.ok e.err e.full k.word)

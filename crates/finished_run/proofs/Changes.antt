@@ -3,34 +3,30 @@ use Rattle.std.proofs.Common.{ℕ, ◌≤◌, ◌≡◌, refl, sym, ap, ◌∙�
 use Rattle.std.proofs.lemmas.Bool.{and_parts, and_from, ltb-true}
 use Rattle.std.proofs.lemmas.Float.{T_from_true}
 use Rattle.std.specs.Prelude.{T, leb, ◌&&◌}
-use Rattle.definition.specs.Session.{State, asking, standing, over as ended, either}
+use Rattle.definition.specs.Session.{State, asking, standing, over as ended, finished_in, either}
 use Rattle.definition.specs.Whole.{Edit, put_in, take_out, exchange, placed, edited, edited_rows, renewed}
 use Rattle.definition.specs.declared.Row.{Row}
 use Rattle.lists.specs.Lists.{requested_in}
 use Rattle.lists.specs.Changing.{edit_of, size_after, roomy, rows_from}
 use Rattle.lists.specs.declared.Change.{Change}
 use Rattle.lists.specs.declared.Wanted.{Wanted}
-use Rattle.report.specs.Reading.{report_in}
 use Rattle.report_parts.specs.Parts.{BandsCount}
 use Rattle.stencil.specs.Stencil.{rows_at}
 use Rattle.stencil.specs.declared.StencilRows.{StencilRows}
 use Rattle.phases.specs.Phases.{finished_of}
 use Rattle.phases.specs.declared.Phase.TheVariants.{Ended}
-use Rattle.session.specs.Meaning.{held_of, state, stands_in}
-use Rattle.session.specs.Changing.{fitted_in, changed_from, Changed}
+use Rattle.run_body.specs.Meaning.{held_of}
+use Rattle.session.specs.Meaning.{state, stands_in}
+use Rattle.finished_run.specs.Changing.{fitted_in, changed_from, Changed}
 use Rattle.session.specs.declared.Session.{Session}
-use Rattle.session.proofs.Laws.{wanted_within, state_within}
-use Rattle.session.proofs.Reading.{is_standing, not_standing, standing_within}
+use Rattle.run_body.proofs.Laws.{wanted_within}
+use Rattle.session.proofs.Laws.{state_within}
+use Rattle.finished_run.proofs.Reading.{is_standing, not_standing, standing_within}
 
 -- ---- the fit of a finished run
 
 pub fitted_none : (s : Session) → stands_in s ≡ false → None ≡ fitted_in (state s)
-fitted_none s f = by (state s) (not_standing s f)
-  where
-    by : (t : State) → report_in t ≡ None → None ≡ fitted_in t
-    by (asking kept t) g = refl
-    by (standing c) g = cc
-    by ended g = refl
+fitted_none s f = rw (not_standing s f)
 
 pub fitted_some : (s : Session) (n : ℕ) → stands_in s ≡ true → BandsCount s.body.wanted s.body.rows n
     → Some (s.body.progress.point, n) ≡ fitted_in (state s)
@@ -47,7 +43,7 @@ module _ (s : Session) (x : Change) (row : Row) where
   pub not_changed : stands_in s ≡ false → Changed s (edit_of x) (rows_from row) s
   not_changed f = record { is = by (state s) (not_standing s f) }
     where
-      by : (t : State) → report_in t ≡ None → changed_from t s (edit_of x) (rows_from row) s
+      by : (t : State) → finished_in t ≡ None → changed_from t s (edit_of x) (rows_from row) s
       by (asking kept t) g = refl
       by (standing c) g = absurd (cc)
       by ended g = refl

@@ -1,6 +1,6 @@
 -- `report`: by its parts, where a report stands.
-use Rattle.session.proofs.Reading.{shown}
-use Rattle.session.proofs.report.Goals as goal
+use Rattle.finished_run.proofs.Reading.{shown}
+use Rattle.finished_run.proofs.report.Goals as goal
 
 pub returns : goal.returns
 returns c =

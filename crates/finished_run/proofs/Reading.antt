@@ -4,7 +4,7 @@ use Rattle.std.proofs.lemmas.Bool.{and_parts}
 use Rattle.std.specs.Prelude.{cond, slice_get, option_map, take, Float}
 use Rattle.definition.specs.Lists.{any}
 use Rattle.definition.specs.Meaning.{approximation_says, convergence_of}
-use Rattle.definition.specs.Session.{standing, over}
+use Rattle.definition.specs.Session.{standing, over, finished_in}
 use Rattle.definition.specs.Summary.{Report, Approximation, is_outside, report_of}
 use Rattle.definition.specs.Summary as summary
 use Rattle.definition.specs.declared.Distances.{Distances}
@@ -21,9 +21,11 @@ use Rattle.report.proofs.Reading.{at_most, head_lists}
 use Rattle.report_parts.specs.Parts.{results_at, bands_at, baseline_results_at, baseline_at, ResultsCount, BandsCount}
 use Rattle.phases.specs.Phases.{plan_of, finished_of}
 use Rattle.phases.proofs.Taken.{open_state, closed_state, stands_closed}
-use Rattle.session.specs.Meaning.{measured_of, baseline_from, held_of, within_of, state, stands_in}
+use Rattle.run_body.specs.Meaning.{measured_of, baseline_from, held_of, within_of}
+use Rattle.session.specs.Meaning.{state, stands_in}
 use Rattle.session.specs.declared.Session.{Session}
-use Rattle.session.proofs.Laws.{shots_within, wanted_within, state_within, state_beyond}
+use Rattle.run_body.proofs.Laws.{shots_within, wanted_within}
+use Rattle.session.proofs.Laws.{state_within, state_beyond}
 
 -- ---- where a report stands
 
@@ -31,14 +33,14 @@ module _ (s : Session) where
   abbrev stands : Bool
   stands = (plan_of s.phase s.body.entered).stands
 
-  pub not_standing : stands_in s ≡ false → report_in (state s) ≡ None
+  pub not_standing : stands_in s ≡ false → finished_in (state s) ≡ None
   not_standing e = by (within_of s.body) (plan_of s.phase s.body.entered).asks refl refl
     where
-      by : (w : Bool) (a : Option Distances) → within_of s.body ≡ w → (plan_of s.phase s.body.entered).asks ≡ a → report_in (state s) ≡ None
-      by false a w i = ap report_in (state_beyond s w)
-      by true (Some list) w i = ap report_in (state_within s w ∙ (open_state (held_of s.body) s.phase s.body.entered list i).is)
+      by : (w : Bool) (a : Option Distances) → within_of s.body ≡ w → (plan_of s.phase s.body.entered).asks ≡ a → finished_in (state s) ≡ None
+      by false a w i = ap finished_in (state_beyond s w)
+      by true (Some list) w i = ap finished_in (state_within s w ∙ (open_state (held_of s.body) s.phase s.body.entered list i).is)
       by true None w i =
-          ap report_in
+          ap finished_in
           (state_within s w ∙ closed_state (held_of s.body) s.phase s.body.entered i
           ∙ ap (λ (t : Bool). cond t (standing (finished_of (held_of s.body))) over) (rw w at e))
 

@@ -1,40 +1,35 @@
--- A taken reply, from what each step of `reply` gives to what the run holds afterwards. Assumes nothing.
-use Rattle.std.proofs.Common.{ℕ, zero, suc, ◌≤◌, ◌≡◌, refl, sym, ap, ◌∙◌, subst, Bool, true, false, List, length, take, Option, None, Some, arith}
-use Rattle.std.proofs.Common.{eq-eqb, ne_eqb}
+-- A reply laid in a body, from what each step gives to what the run stands for afterwards. Assumes nothing.
+use Rattle.std.proofs.Common.{ℕ, zero, suc, ◌≤◌, ◌≡◌, refl, ap, ◌∙◌, subst, Bool, true, false, List, length, take, Option, None, Some, arith}
 use Rattle.std.proofs.Math.ListN.{length-map, length-take}
 use Rattle.std.specs.Prelude.{Float, cond, eqb, ◌&&◌, replicate, option_map}
 use lib.Dec.{eqb-suc-zero}
 use Rattle.numeric.specs.Numeric.{zero64, finite}
 use Rattle.definition.specs.Lists.{first_at}
-use Rattle.definition.specs.Run.{ask, Entry, entries, reading_of, is_missing}
+use Rattle.definition.specs.Run.{Entry, entries, reading_of, is_missing}
 use Rattle.definition.specs.Meaning.{observation_of}
 use Rattle.definition.specs.Likelihood as likelihood
 use Rattle.definition.specs.Summary.{baseline_at}
 use Rattle.definition.specs.Summary as summary
-use Rattle.definition.specs.Session.{asking, Said, says_of, wants, Declines, Replied}
 use Rattle.definition.specs.declared.Distances.{Distances}
 use Rattle.definition.specs.declared.Evaluation.{Evaluation as Evaluated}
 use Rattle.definition.specs.declared.Point.{Point}
 use Rattle.definition.specs.declared.Row.{Row}
-use Rattle.definition.proofs.Calls.{reply_closed, reply_wrong, reply_taken}
 use Rattle.likelihood.proofs.Laws.{over_take, sums_take, zip3_take, zip3_within}
 use Rattle.lists.specs.Lists.{HasWanted, places_of, drops_in, observations_at}
 use Rattle.stencil.specs.Stencil.{rows_at, all_rows, laid_rows, rows_next, next_of}
 use Rattle.stencil.specs.declared.StencilPoint.{StencilPoint}
 use Rattle.stencil.specs.declared.StencilRows.{StencilRows}
 use Rattle.stencil.proofs.Laws.{take_rows, rows_laid}
-use Rattle.phases.specs.Phases.{plan_of, at_last, valued_from, Takes}
+use Rattle.phases.specs.Phases.{plan_of, at_last, valued_from}
 use Rattle.phases.specs.declared.Lays.TheVariants.{Baseline as Drops}
-use Rattle.phases.specs.declared.Next.{Next}
 use Rattle.phases.specs.declared.Phase.{Phase}
 use Rattle.phases.specs.declared.Phase.TheVariants.{Over, Start, Evaluation, Trial, Look, Bands, Ended}
 use Rattle.phases.specs.declared.Plan.{Plan}
-use Rattle.phases.proofs.Taken.{Open, continue_at, Laid, taken}
-use Rattle.session.specs.Meaning.{measured_of, baseline_from, baseline_in, held_of, within_of, sizes_of, state, seen, wanted_by, counted_by}
-use Rattle.session.specs.Meaning.{laid_by, sum_by, evaluation_by, kept_by, baseline_by}
-use Rattle.session.specs.declared.Body.{Body}
-use Rattle.session.specs.declared.Session.{Session}
-use Rattle.session.proofs.Laws.{shots_within, wanted_within, state_within, asks_in, closed, open_within, open_in, wants_by, count_is}
+use Rattle.phases.proofs.Taken.{Laid}
+use Rattle.run_body.specs.Meaning.{measured_of, baseline_from, baseline_in, held_of, within_of, wanted_by}
+use Rattle.run_body.specs.Meaning.{laid_by, sum_by, evaluation_by, kept_by, baseline_by}
+use Rattle.run_body.specs.declared.Body.{Body}
+use Rattle.run_body.proofs.Laws.{shots_within, wanted_within}
 
 -- the body with a reply laid in, before the fit goes on: each part is what its step gives, by what the open question wants
 abbrev pub laid_in : Body → Plan → List Entry → StencilRows 64 → Body
@@ -55,13 +50,13 @@ abbrev pub Full : StencilRows 64 → Type 0
 Full t = (length t.predicted ≡ 64) × (length t.by_mv ≡ 64) × (length t.by_bc ≡ 64)
 
 -- how many entries the open question wants
-abbrev wants_all : Body → Option Distances → ℕ
+abbrev pub wants_all : Body → Option Distances → ℕ
 wants_all b None = 0
 wants_all b (Some list) = wanted_by list b.shots.n b.wanted.n
 
 module _ (b : Body) (es : List Entry) (t : StencilRows 64) (requested : Bool) (has : HasWanted b.wanted requested) (h : within_of b ≡ true)
     (l : Full b.rows) where
-  abbrev LaidAt : Phase → Type 0
+  abbrev pub LaidAt : Phase → Type 0
   LaidAt ph = let plan = plan_of ph b.entered in
       Laid (held_of b) es (rows_at b.shots.n t) (rows_at b.wanted.n t) (take b.shots.n (laid_in b plan es t).predicted) (baseline_in (laid_in b plan es t))
       (evaluation_at b plan t) (first_at is_missing es) (sum_at b plan es) t.gap requested ph
@@ -148,53 +143,3 @@ module _ (b : Body) (es : List Entry) (t : StencilRows 64) (requested : Bool) (h
     laid = baseline_is n;
   }
   laid_at Ended list a n is = absurd (cc)
-
--- ---- the answers
-
-module _ (s : Session) (es : List Entry) where
-  pub replied_declined : (said : Said) (r : Session) → asks_in s ≡ None → Declines seen said r s 8 → Replied seen s es said r
-  replied_declined said r n d = reply_closed seen s said r es (state s) refl (closed s n) d
-
-  module _ (list : Distances) (o : asks_in s ≡ Some list) where
-    q : Open (held_of s.body) s.phase list
-    q = open_in s list o
-
-    is_open : state s ≡ asking None (ask q.point q.which (continue_at (held_of s.body) s.phase))
-    is_open = state_within s (open_within s list o).0 ∙ q.is
-
-    wants_is : wants (sizes_of s.body) q.which ≡ wanted_by list s.body.shots.n s.body.wanted.n
-    wants_is = wants_by s.body q.which ∙ ap (λ (l : Distances). wanted_by l s.body.shots.n s.body.wanted.n) q.about
-
-    pub replied_wrong : (said : Said) (r : Session) → (length es ≡ wanted_by list s.body.shots.n s.body.wanted.n → ⊥) → Declines seen said r s 9
-        → Replied seen s es said r
-    replied_wrong said r n d =
-        reply_wrong seen s said r es None q.point q.which (continue_at (held_of s.body) s.phase) is_open (rw wants_is (ne_eqb _ _ n)) d
-
-    abbrev plan : Plan
-    plan = plan_of s.phase s.body.entered
-
-    pub replied_taken : (t : StencilRows 64) (requested : Bool) (next : Next) → length es ≡ wanted_by list s.body.shots.n s.body.wanted.n
-        → Full s.body.rows → HasWanted s.body.wanted requested
-        → all_rows t ≡ laid_by plan.lays s.body.progress.point es (all_rows s.body.rows)
-        → Takes s.phase s.body.progress (evaluation_at s.body plan t) (first_at is_missing es) (sum_at s.body plan es) t.gap requested s.body.entered next
-        → Replied seen s es (says_of next.step)
-        (record {
-          body = record (laid_in s.body plan es t) { progress = next.progress };
-          phase = next.phase;
-          asked = counted_by (says_of next.step) s.asked;
-        })
-    replied_taken t requested next n l has is v =
-        let w = open_within s list o in
-        let r : Session = record {
-          body = record (laid_in s.body plan es t) { progress = next.progress };
-          phase = next.phase;
-          asked = counted_by (says_of next.step) s.asked;
-        } in
-        let led = taken (held_of s.body) es _ _ _ _ _ _ _ _ _ s.phase next
-        (laid_at s.body es t requested has w.0 l s.phase list w.1 (n ∙ ap (wants_all s.body) (sym w.1)) is) v in
-        reply_taken seen s (says_of next.step) r es None q.point q.which (continue_at (held_of s.body) s.phase) is_open (rw wants_is (eq-eqb _ _ n)) (record {
-          leads = state_within r w.0 ∙ led.leads;
-          says = led.says;
-          counts = count_is (says_of next.step) s.asked (continue_at (held_of s.body) s.phase (entries es)) led.says;
-          sized = refl;
-        })
