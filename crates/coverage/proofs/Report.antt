@@ -1,10 +1,10 @@
 -- The report under a coverage table: `row_direct`, `single_row`, `rows_alone`, `under_in_order`, `under_once`. Assumes nothing.
 use mathlib.Core.Path.{◌≡◌, refl, sym, ap, ◌∙◌}
-use mathlib.Core.Bool.{Bool, true, false, cond, not, ◌||◌}
+use mathlib.Core.Bool.{Bool, true, false, cond}
 use mathlib.Core.List.{List, [], ◌∷◌, map}
 use Rattle.std.specs.Prelude.{Option, None, Some, option_map}
 use lib.ListN.{length}
-use lib.Ieee.{Float, lt}
+use lib.Ieee.{Float}
 use Rattle.numeric.specs.Numeric.{finite}
 use Rattle.matrix.specs.Matrix.{Inverted, inverse, non_finite, rank_deficient, inverse_of}
 use Rattle.matrix.specs.declared.Symmetric2.{Symmetric2}
@@ -12,27 +12,22 @@ use Rattle.interval.specs.Interval.{level95, factor95}
 use Rattle.interval.specs.declared.GaussianIntervalV1.{GaussianIntervalV1}
 use Rattle.interval.proofs.Drawn.{drawn}
 use Rattle.criteria.specs.Criteria.{at_bound_of}
-use Rattle.definition.specs.Constants.{least_sensitivity_ratio, largest_condition}
 use Rattle.definition.specs.Lists.{zip_with}
-use Rattle.definition.specs.Request.{Requested, Measured}
+use Rattle.definition.specs.Request.{Requested}
 use Rattle.definition.specs.Likelihood.{rows_of}
-use Rattle.definition.specs.Fit.{Fit}
 use Rattle.definition.specs.Summary.{interval95, Approximation, available, unavailable, covariance_of, correlation_of, with_intervals, with_inverse}
-use Rattle.definition.specs.Summary.{build_approximation_of, approximation_of, converged, Diagnostics, diagnostics_of, results_of, band_variance_of, interval_at}
-use Rattle.definition.specs.Summary.{latent_of, latent_with, future_of, BandWith, Band, band_of, crosses_bounds_of, crosses_of, warn, warnings_with, warnings_of}
-use Rattle.definition.specs.Summary.{is_mesh, where_available, is_unavailable, ReportWith, Finished, report_of}
+use Rattle.definition.specs.Summary.{build_approximation_of, approximation_of, converged, diagnostics_of, results_of, band_variance_of, interval_at}
+use Rattle.definition.specs.Summary.{latent_of, latent_with, future_of, BandWith, Band, band_of, crosses_bounds_of, crosses_of, warnings_with, warnings_of}
+use Rattle.definition.specs.Summary.{ReportWith, Finished, report_of}
 use Rattle.coverage.specs.Rows.{Table, built_in_row, built_in, at_row, rows_under}
-use Rattle.definition.specs.Laws.{without}
-use Rattle.definition.proofs.Warnings.{rising, rising_distinct, without_warn, without_own}
+use Rattle.definition.proofs.Warnings.{rising, rising_distinct, crossing_alone}
 use Rattle.coverage.specs.Report.{UnderInOrder, UnderOnce}
 use Rattle.coverage.specs.Report.{approximation_by, band_by, IntervalRows}
 use Rattle.coverage.specs.Report.{crosses_under, warnings_under, report_under, RowDirect, SingleRow, bare_approximation}
 use Rattle.coverage.specs.Report.{bare_band, RowsAlone}
 use Rattle.definition.specs.declared.Point.{Point}
 use Rattle.definition.specs.declared.Row.{Row}
-use Rattle.definition.specs.declared.Evaluation.{Evaluation}
 use Rattle.definition.specs.declared.TruingGaussianApproximationV1.{TruingGaussianApproximationV1}
-use Rattle.definition.specs.declared.TruingUncertaintyWarningCodeV1.TheVariants as Warning
 use Rattle.definition.specs.declared.TruingUncertaintyWarningCodeV1.{TruingUncertaintyWarningCodeV1}
 
 pub row_direct : RowDirect
@@ -194,19 +189,6 @@ map_zip m f [] ys = refl
 map_zip m f (a ∷ xs) [] = refl
 map_zip {D = D} m f (a ∷ xs) (b ∷ ys) = ap (λ (ds : List D). m (f a b) ∷ ds) (map_zip m f xs ys)
 
--- only the code of the crossing goes by how that is judged
-bare_warnings : (x y : Bool) (m : Measured) (f : Fit) (e : Evaluation) (a : Approximation) (d : Diagnostics) (ds : List Requested)
-    → without Warning.IntervalCrossesFitBounds (warnings_with x m f e a d ds) ≡ without Warning.IntervalCrossesFitBounds (warnings_with y m f e a d ds)
-bare_warnings x y m f e a d ds =
-    let out = Warning.IntervalCrossesFitBounds in
-    without_warn out (not (converged f.convergence)) Warning.OptimizerDidNotConverge _ _
-    (without_warn out (is_mesh f.convergence) Warning.ObjectiveMeshConvergence _ _
-    (without_warn out (lt e.bc_sensitivity_ratio least_sensitivity_ratio) Warning.WeakBcSensitivity _ _
-    (without_warn out (not (finite e.data_condition_number) || lt largest_condition e.data_condition_number) Warning.IllConditionedData _ _
-    (without_warn out (where_available _ a) Warning.MvPriorDominated _ _
-    (without_warn out (where_available _ a) Warning.BcPriorDominated _ _
-    (without_warn out (is_unavailable a) Warning.GaussianApproximationUnavailable _ _ (without_own out x _ ∙ sym (without_own out y _))))))))
-
 -- the bands under a table are those without one, each told by its rows
 pub covered_bands : (t : Table) (c : Finished) → (report_under t c).bands ≡ map (band_by (rows_under t)) (report_of c).bands
 unfolding report_under report_of
@@ -224,7 +206,7 @@ rows_alone t u c =
     ∙ zip_same (λ q r. bare_band (band_by (rows_under t) (band_of a q r))) (λ q r. bare_band (band_by (rows_under u) (band_of a q r)))
     (λ q r. bare_band_lem t u (band_of a q r)) c.requested rows
     ∙ sym (map_zip bare_band (λ q r. band_by (rows_under u) (band_of a q r)) c.requested rows))
-    (bare_warnings (crosses_under t a) (crosses_under u a) c.measured c.fit c.evaluation a
+    (crossing_alone (crosses_under t a) (crosses_under u a) c.measured c.fit c.evaluation a
     (diagnostics_of (length c.measured.observations) c.fit c.evaluation a) c.requested)
 
 -- ---- the warnings

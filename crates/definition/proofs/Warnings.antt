@@ -1,7 +1,7 @@
--- A report's warnings stand in the source's order, each once: `warnings_in_order`, `warnings_once`; and two lists of them that agree but for one code. Assumes
--- nothing.
+-- A report's warnings stand in the source's order, each once: `warnings_in_order`, `warnings_once`. Those of two reports agree but for one code: `crossing_alone`,
+-- `outside_alone`. Assumes nothing.
 use Prim.Native.Nat.{ℕ, suc, ◌≤◌, ◌<◌}
-use mathlib.Core.Path.{◌≡◌, refl, ap}
+use mathlib.Core.Path.{◌≡◌, refl, sym, ap, ◌∙◌}
 use mathlib.Core.Bool.{Bool, true, false, cond, not, ◌||◌}
 use mathlib.Core.List.{List, [], ◌∷◌}
 use native.Mathlib.Omega.{arith}
@@ -74,13 +74,43 @@ warnings_once c = rising_distinct 0 _ (warnings_in_order c)
 -- ---- but for one code
 
 -- a code in front of both lists
-pub without_warn : (out : TruingUncertaintyWarningCodeV1) (b : Bool) (code : TruingUncertaintyWarningCodeV1) (xs ys : List TruingUncertaintyWarningCodeV1)
+without_warn : (out : TruingUncertaintyWarningCodeV1) (b : Bool) (code : TruingUncertaintyWarningCodeV1) (xs ys : List TruingUncertaintyWarningCodeV1)
     → without out xs ≡ without out ys → without out (warn b code xs) ≡ without out (warn b code ys)
 without_warn out true code xs ys e =
     ap (λ (zs : List TruingUncertaintyWarningCodeV1). cond (not (eqb (index_of code) (index_of out))) (code ∷ zs) zs) e
 without_warn out false code xs ys e = e
 
 -- the code itself in front, or not
-pub without_own : (out : TruingUncertaintyWarningCodeV1) (b : Bool) (xs : List TruingUncertaintyWarningCodeV1) → without out (warn b out xs) ≡ without out xs
+without_own : (out : TruingUncertaintyWarningCodeV1) (b : Bool) (xs : List TruingUncertaintyWarningCodeV1) → without out (warn b out xs) ≡ without out xs
 without_own out true xs = rw (eq-eqb (index_of out) (index_of out) refl)
 without_own out false xs = refl
+
+-- only the code of the crossing goes by how it is judged
+pub crossing_alone : (x y : Bool) (m : Measured) (f : Fit) (e : Evaluation) (a : Approximation) (d : Diagnostics) (ds : List Requested)
+    → without Warning.IntervalCrossesFitBounds (warnings_with x m f e a d ds) ≡ without Warning.IntervalCrossesFitBounds (warnings_with y m f e a d ds)
+crossing_alone x y m f e a d ds =
+    let out = Warning.IntervalCrossesFitBounds in
+    without_warn out (not (converged f.convergence)) Warning.OptimizerDidNotConverge _ _
+    (without_warn out (is_mesh f.convergence) Warning.ObjectiveMeshConvergence _ _
+    (without_warn out (lt e.bc_sensitivity_ratio least_sensitivity_ratio) Warning.WeakBcSensitivity _ _
+    (without_warn out (not (finite e.data_condition_number) || lt largest_condition e.data_condition_number) Warning.IllConditionedData _ _
+    (without_warn out (where_available _ a) Warning.MvPriorDominated _ _
+    (without_warn out (where_available _ a) Warning.BcPriorDominated _ _
+    (without_warn out (is_unavailable a) Warning.GaussianApproximationUnavailable _ _ (without_own out x _ ∙ sym (without_own out y _))))))))
+
+-- only the code of the requested distances looks at them
+pub outside_alone : (crosses : Bool) (m : Measured) (f : Fit) (e : Evaluation) (a : Approximation) (d : Diagnostics) (l k : List Requested)
+    → without Warning.PredictionOutsideObservedDomain (warnings_with crosses m f e a d k)
+    ≡ without Warning.PredictionOutsideObservedDomain (warnings_with crosses m f e a d l)
+outside_alone crosses m f e a d l k =
+    let out = Warning.PredictionOutsideObservedDomain in
+    without_warn out (not (converged f.convergence)) Warning.OptimizerDidNotConverge _ _
+    (without_warn out (is_mesh f.convergence) Warning.ObjectiveMeshConvergence _ _
+    (without_warn out (lt e.bc_sensitivity_ratio least_sensitivity_ratio) Warning.WeakBcSensitivity _ _
+    (without_warn out (not (finite e.data_condition_number) || lt largest_condition e.data_condition_number) Warning.IllConditionedData _ _
+    (without_warn out (where_available _ a) Warning.MvPriorDominated _ _
+    (without_warn out (where_available _ a) Warning.BcPriorDominated _ _
+    (without_warn out (is_unavailable a) Warning.GaussianApproximationUnavailable _ _
+    (without_warn out crosses Warning.IntervalCrossesFitBounds _ _
+    (without_warn out (at_most_one d.effective_degrees_of_freedom) Warning.LowEffectiveDegreesOfFreedom _ _
+    (without_own out (any (is_outside m.observations) k) [] ∙ sym (without_own out (any (is_outside m.observations) l) []))))))))))

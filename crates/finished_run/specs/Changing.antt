@@ -12,7 +12,7 @@ use Rattle.session.specs.declared.Session.{Session}
 abbrev pub fitted_in : State → Option (Point × ℕ)
 fitted_in x = option_map (λ c. (c.fit.point, length c.requested)) (finished_in x)
 
--- where no finished run stands, or the edit does not fit its list, nothing changes
+-- where no finished run stands, or the edit does not fit its list, nothing changes; where it does, what the arrays hold past their lists is free
 abbrev pub changed_from : State → Session → Edit → Rows → Session → Type 0
 changed_from (asking kept t) s e one r = r ≡ s
 changed_from (standing c) s e one r =

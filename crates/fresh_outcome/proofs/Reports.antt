@@ -1,27 +1,21 @@
 -- What an edit changes in a report: `only_band`. The bands are a map over the requested distances, and one warning alone looks at them. Assumes nothing.
 use Prim.Native.Nat.{◌-◌}
 use mathlib.Core.Path.{◌≡◌, refl, sym, ap, ◌∙◌, subst₂}
-use mathlib.Core.Bool.{Bool, true, false, cond, not, ◌||◌}
-use mathlib.Core.List.{List, [], ◌∷◌, map, map-map}
+use mathlib.Core.Bool.{Bool}
+use mathlib.Core.List.{List, map, map-map}
 use lib.ListN.{length, set}
 use lib.Seq.{map-set}
-use lib.Ieee.{Float, lt}
-use Rattle.numeric.specs.Numeric.{finite}
-use Rattle.definition.specs.Constants.{least_sensitivity_ratio, largest_condition}
-use Rattle.definition.specs.Lists.{any, insert_at, remove_at, zip_with}
-use Rattle.definition.specs.Request.{Requested, Measured, Opening}
+use lib.Ieee.{Float}
+use Rattle.definition.specs.Lists.{insert_at, remove_at, zip_with}
+use Rattle.definition.specs.Request.{Requested, Opening}
 use Rattle.definition.specs.Likelihood.{Rows, row_of, rows_of, evaluation_of}
 use Rattle.definition.specs.Fit.{Fit}
-use Rattle.definition.specs.Summary.{converged, Approximation, approximation_of, Diagnostics, diagnostics_of, BandWith, Band, band_of, is_outside, dominated_of}
-use Rattle.definition.specs.Summary.{is_mesh, where_available, is_unavailable, at_most_one, warn, warnings_with, warned_by, ReportWith, Finished, report_with}
-use Rattle.definition.specs.Laws.{without}
-use Rattle.definition.proofs.Warnings.{without_warn, without_own}
+use Rattle.definition.specs.Summary.{converged, Approximation, approximation_of, diagnostics_of, BandWith, Band, band_of}
+use Rattle.definition.specs.Summary.{warned_by, ReportWith, Finished, report_with}
+use Rattle.definition.proofs.Warnings.{outside_alone}
 use Rattle.definition.specs.Whole.{Edit, put_in, take_out, exchange, edited}
 use Rattle.definition.specs.declared.Point.{Point}
 use Rattle.definition.specs.declared.Row.{Row}
-use Rattle.definition.specs.declared.Evaluation.{Evaluation}
-use Rattle.definition.specs.declared.TruingUncertaintyWarningCodeV1.TheVariants as Warning
-use Rattle.definition.specs.declared.TruingUncertaintyWarningCodeV1.{TruingUncertaintyWarningCodeV1}
 use Rattle.fresh_outcome.specs.Solver.{Solver, distances_of, BandEdited, BandAlone, OnlyBand}
 use Rattle.fresh_outcome.proofs.Lists.{zip_map, zip3_maps, map_insert, map_remove}
 use Rattle.fresh_outcome.proofs.Rows.{drop_at, mv_slope_at, bc_slope_at, rows_with}
@@ -60,23 +54,6 @@ module _ {I : Type 0} (tell : Band → BandWith I) (kept : (b : Band) → (tell 
 
 -- ---- the warnings
 
--- only the one about the requested distances looks at them
-warnings_same : (crosses : Bool) (m : Measured) (f : Fit) (e : Evaluation) (a : Approximation) (d : Diagnostics) (l k : List Requested)
-    → without Warning.PredictionOutsideObservedDomain (warnings_with crosses m f e a d k)
-    ≡ without Warning.PredictionOutsideObservedDomain (warnings_with crosses m f e a d l)
-warnings_same crosses m f e a d l k =
-    let out = Warning.PredictionOutsideObservedDomain in
-    without_warn out (not (converged f.convergence)) Warning.OptimizerDidNotConverge _ _
-    (without_warn out (is_mesh f.convergence) Warning.ObjectiveMeshConvergence _ _
-    (without_warn out (lt e.bc_sensitivity_ratio least_sensitivity_ratio) Warning.WeakBcSensitivity _ _
-    (without_warn out (not (finite e.data_condition_number) || lt largest_condition e.data_condition_number) Warning.IllConditionedData _ _
-    (without_warn out (where_available _ a) Warning.MvPriorDominated _ _
-    (without_warn out (where_available _ a) Warning.BcPriorDominated _ _
-    (without_warn out (is_unavailable a) Warning.GaussianApproximationUnavailable _ _
-    (without_warn out crosses Warning.IntervalCrossesFitBounds _ _
-    (without_warn out (at_most_one d.effective_degrees_of_freedom) Warning.LowEffectiveDegreesOfFreedom _ _
-    (without_own out (any (is_outside m.observations) k) [] ∙ sym (without_own out (any (is_outside m.observations) l) []))))))))))
-
 -- ---- the theorem
 
 module _
@@ -101,7 +78,7 @@ module _
         diagnostics = refl;
         approximation = refl;
         bands = bands_edited tell kept σ a f.point l e;
-        warnings = warnings_same (crosses a) o.measured f x a (diagnostics_of (length o.measured.observations) f x a) l (edited e l);
+        warnings = outside_alone (crosses a) o.measured f x a (diagnostics_of (length o.measured.observations) f x a) l (edited e l);
       }
 
 pub only_band : OnlyBand
