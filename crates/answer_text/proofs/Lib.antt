@@ -1,2 +1,3 @@
+pub mod ByPlace
 pub mod Fits
 pub mod Laws

@@ -1,9 +1,9 @@
--- Lists with one put in or taken out, as arrays over which they are laid. Assumes nothing.
-use Rattle.std.proofs.Common.{◌≡◌, ℕ, zero, suc, ◌≤◌, ◌<◌, ◌+◌, ◌-◌, List, [], ◌∷◌, ◌++◌, length, take, drop, set, refl, sym, ap, arith}
+-- Lists with one put in or taken out, read place by place, and the arrays over which they are laid. Assumes nothing.
+use Rattle.std.proofs.Common.{◌≡◌, ℕ, zero, suc, ◌≤◌, ◌<◌, ◌+◌, ◌-◌, List, [], ◌∷◌, ◌++◌, length, take, drop, get_or, set, refl, sym, ap, arith}
 use Rattle.std.specs.List.{copy_within}
 use native.Mathlib.Nat.{not-suc-le-zero, le_of_suc-le-suc}
 use native.Mathlib.Numerals.{add-one}
-use borrow.Author.Tests.{lt-ltb, le-leb}
+use borrow.Author.Tests.{lt-ltb, le-ltb, le-leb, lt-leb}
 use lib.ListN.{length-take}
 use Rattle.definition.specs.Lists.{insert_at, remove_at}
 use Rattle.slices.specs.Slices.{laid_over}
@@ -11,15 +11,55 @@ use Rattle.likelihood.proofs.Laws.{over_take}
 use Rattle.array_edits.specs.Places.{inserted_of, removed_of}
 
 module _ {A : Type 0} where
-  insert_length : (a : A) (l : List A) (j : ℕ) → length (insert_at j a l) ≡ suc (length l)
+  pub insert_length : (a : A) (l : List A) (j : ℕ) → length (insert_at j a l) ≡ suc (length l)
   insert_length a l zero = refl
   insert_length a [] (suc j) = refl
   insert_length a (x ∷ l) (suc j) = ap suc (insert_length a l j)
 
-  remove_length : (l : List A) (j : ℕ) → j < length l → suc (length (remove_at j l)) ≡ length l
+  -- below the place nothing moves
+  pub insert_start : (a : A) (l : List A) (j : ℕ) → j ≤ length l → laid_over (take j (insert_at j a l)) l ≡ l
+  insert_start a l zero h = refl
+  insert_start a [] (suc j) h = absurd (not-suc-le-zero h)
+  insert_start a (x ∷ l) (suc j) h = ap (λ (r : List A). x ∷ r) (insert_start a l j (le_of_suc-le-suc h))
+
+  pub insert_at_lem : (a : A) (l : List A) (j : ℕ) (d : A) → j ≤ length l → get_or (insert_at j a l) j d ≡ a
+  insert_at_lem a l zero d h = refl
+  insert_at_lem a [] (suc j) d h = absurd (not-suc-le-zero h)
+  insert_at_lem a (x ∷ l) (suc j) d h = insert_at_lem a l j d (le_of_suc-le-suc h)
+
+  pub insert_past : (a : A) (l : List A) (j i : ℕ) (d : A) → j ≤ i → i < length l → get_or (insert_at j a l) (suc i) d ≡ get_or l i d
+  insert_past a l zero i d g h = refl
+  insert_past a [] (suc j) i d g h = absurd (not-suc-le-zero h)
+  insert_past a (x ∷ l) (suc j) zero d g h = absurd (not-suc-le-zero g)
+  insert_past a (x ∷ l) (suc j) (suc i) d g h = insert_past a l j i d (le_of_suc-le-suc g) (le_of_suc-le-suc h)
+
+  pub insert_take : (a : A) (l : List A) (j n : ℕ) → j ≤ n → n ≤ length l → take (suc n) (insert_at j a l) ≡ insert_at j a (take n l)
+  insert_take a l zero n g h = refl
+  insert_take a l (suc j) zero g h = absurd (not-suc-le-zero g)
+  insert_take a [] (suc j) (suc n) g h = absurd (not-suc-le-zero h)
+  insert_take a (x ∷ l) (suc j) (suc n) g h = ap (λ (r : List A). x ∷ r) (insert_take a l j n (le_of_suc-le-suc g) (le_of_suc-le-suc h))
+
+  pub remove_length : (l : List A) (j : ℕ) → j < length l → suc (length (remove_at j l)) ≡ length l
   remove_length [] j h = absurd (not-suc-le-zero h)
   remove_length (x ∷ l) zero h = refl
   remove_length (x ∷ l) (suc j) h = ap suc (remove_length l j (le_of_suc-le-suc h))
+
+  pub remove_start : (l : List A) (j : ℕ) → j < length l → laid_over (take j (remove_at j l)) l ≡ l
+  remove_start [] j h = absurd (not-suc-le-zero h)
+  remove_start (x ∷ l) zero h = refl
+  remove_start (x ∷ l) (suc j) h = ap (λ (r : List A). x ∷ r) (remove_start l j (le_of_suc-le-suc h))
+
+  pub remove_past : (l : List A) (j i : ℕ) (d : A) → j ≤ i → get_or (remove_at j l) i d ≡ get_or l (suc i) d
+  remove_past [] j i d g = refl
+  remove_past (x ∷ l) zero i d g = refl
+  remove_past (x ∷ l) (suc j) zero d g = absurd (not-suc-le-zero g)
+  remove_past (x ∷ l) (suc j) (suc i) d g = remove_past l j i d (le_of_suc-le-suc g)
+
+  pub remove_take : (l : List A) (j n : ℕ) → j ≤ n → n < length l → take n (remove_at j l) ≡ remove_at j (take (suc n) l)
+  remove_take [] j n g h = absurd (not-suc-le-zero h)
+  remove_take (x ∷ l) zero n g h = refl
+  remove_take (x ∷ l) (suc j) zero g h = absurd (not-suc-le-zero g)
+  remove_take (x ∷ l) (suc j) (suc n) g h = ap (λ (r : List A). x ∷ r) (remove_take l j n (le_of_suc-le-suc g) (le_of_suc-le-suc h))
 
   -- a list laid over one that is no shorter
   over_is : (xs ys : List A) (n : ℕ) → length xs ≡ n → n ≤ length ys → laid_over xs ys ≡ xs ++ drop n ys
@@ -64,6 +104,34 @@ module _ {A : Type 0} where
   set_past [] i x h = refl
   set_past (y ∷ l) zero x h = absurd (not-suc-le-zero h)
   set_past (y ∷ l) (suc i) x h = ap (λ (r : List A). y ∷ r) (set_past l i x (le_of_suc-le-suc h))
+
+  -- ---- the cases of the arrays with one put in or taken out
+
+  module _ (n i : ℕ) (old : List A) where
+    module _ (x : A) where
+      pub inserted_is : i ≤ n → n < 64 → inserted_of n i x old ≡ laid_over (insert_at i x (take n old)) old
+      unfolding inserted_of
+      inserted_is g h = simp (le-leb i n g, lt-ltb n 64 h)
+
+      pub inserted_beyond : n < i → inserted_of n i x old ≡ old
+      unfolding inserted_of
+      inserted_beyond h = simp (lt-leb i n h)
+
+      pub inserted_full : i ≤ n → 64 ≤ n → inserted_of n i x old ≡ old
+      unfolding inserted_of
+      inserted_full g h = simp (le-leb i n g, le-ltb n 64 h)
+
+    pub removed_is : i < n → n ≤ 64 → removed_of n i old ≡ laid_over (remove_at i (take n old)) old
+    unfolding removed_of
+    removed_is g h = simp (lt-ltb i n g, le-leb n 64 h)
+
+    pub removed_beyond : n ≤ i → removed_of n i old ≡ old
+    unfolding removed_of
+    removed_beyond h = simp (le-ltb i n h)
+
+    pub removed_full : i < n → 64 < n → removed_of n i old ≡ old
+    unfolding removed_of
+    removed_full g h = simp (lt-ltb i n g, lt-leb n 64 h)
 
   -- ---- the places in use
 

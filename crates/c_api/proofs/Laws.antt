@@ -79,7 +79,7 @@ module _ (stride : ℕ) where
 
 -- ---- writing
 
-put_none : (i : ℕ) (xs : List ℕ) → put_at i [] xs ≡ xs
+pub put_none : (i : ℕ) (xs : List ℕ) → put_at i [] xs ≡ xs
 put_none zero xs = refl
 put_none (suc i) [] = refl
 put_none (suc i) (x ∷ xs) = ap (λ (r : List ℕ). x ∷ r) (put_none i xs)

@@ -1,14 +1,15 @@
 -- The session of the first 65 stands for the opening of all: what it says is the definition's. Assumes nothing.
-use Rattle.std.specs.Prelude.{None}
+use Rattle.std.specs.Prelude.{None, option_map}
 use Prim.Native.Nat.{ℕ}
 use mathlib.Core.Path.{◌≡◌, refl, sym, ap, ◌∙◌, subst}
 use mathlib.Core.Logic.{◌⊎◌, inl, inr}
 use Rattle.definition.specs.Request.{Opening}
 use Rattle.definition.specs.Run.{Run, refuse}
 use Rattle.definition.specs.Laws.{put}
-use Rattle.definition.specs.Summary.{Finished}
+use Rattle.definition.specs.Summary.{Finished, report_of}
 use Rattle.definition.specs.Whole.{whole}
 use Rattle.definition.specs.Session.{finished_in, Said, head, sizes_for, says_of, Opened}
+use Rattle.report.specs.Reading.{report_in}
 use Rattle.editing.specs.Meaning.{state, seen}
 use Rattle.editing.specs.declared.Session.{Session}
 use Rattle.editing.specs.Meaning.{Answer}
@@ -106,3 +107,7 @@ finished s o t h = by h.all
         ours ∙ ap (λ (v : At). finished_at (kept o) v) r.still
         ∙ ap (λ (u : Run Finished). finished_by None u) (kept_whole o)
         ∙ sym (ap (λ (v : At). finished_at o v) r.still)
+
+-- and the report that the session shows
+pub reported : (s : Session) (o : Opening) (t : At) → Stands s o t → report_in (state s) ≡ option_map report_of (finished_at o t)
+reported s o t h = ap (option_map report_of) (finished s o t h)

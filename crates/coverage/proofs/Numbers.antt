@@ -32,7 +32,7 @@ none_if false w v h g = g
 grows : (n c : ℕ) → 2 ^ 53 ≤ n → 2 ^ 53 ≤ next n c
 grows n c h = omega arith
 
-large_places : (n d : ℕ) (u : List ℕ) → 2 ^ 53 ≤ n → value_of (places_from n d u) ≡ None
+pub large_places : (n d : ℕ) (u : List ℕ) → 2 ^ 53 ≤ n → value_of (places_from n d u) ≡ None
 large_places n d [] h = too_large n d h
 large_places n d (c ∷ u) h = none_if (is_ascii_digit c) (places_from (next n c) (d * 10) u) None (large_places (next n c) (d * 10) u (grows n c h)) refl
 
@@ -40,13 +40,13 @@ large_point : (n : ℕ) (u : List ℕ) → 2 ^ 53 ≤ n → value_of (point_from
 large_point n [] h = refl
 large_point n (c ∷ u) h = none_if (is_ascii_digit c) (places_from (next n c) 10 u) None (large_places (next n c) 10 u (grows n c h)) refl
 
-large_whole : (n : ℕ) (u : List ℕ) → 2 ^ 53 ≤ n → value_of (whole_from n u) ≡ None
+pub large_whole : (n : ℕ) (u : List ℕ) → 2 ^ 53 ≤ n → value_of (whole_from n u) ≡ None
 large_whole n [] h = too_large n 1 h
 large_whole n (c ∷ u) h =
     none_if (is_ascii_digit c) (whole_from (next n c) u) (cond (eqb c 46) (point_from n u) None) (large_whole (next n c) u (grows n c h))
     (none_if (eqb c 46) (point_from n u) None (large_point n u h) refl)
 
-long_places : (n d : ℕ) (u : List ℕ) → 10 ^ 15 < d → value_of (places_from n d u) ≡ None
+pub long_places : (n d : ℕ) (u : List ℕ) → 10 ^ 15 < d → value_of (places_from n d u) ≡ None
 long_places n d [] h = too_long n d h
 long_places n d (c ∷ u) h = none_if (is_ascii_digit c) (places_from (next n c) (d * 10) u) None (long_places (next n c) (d * 10) u (omega arith)) refl
 
@@ -92,7 +92,7 @@ number_on (Places n d) c u =
     (λ e. long_places (next n c) (d * 10) u (omega (arith, ltb-true _ _ e)))
     (λ e. digit_on n (c - 48) (λ m. Places m (d * 10)) u (value_of (places_from (next n c) (d * 10) u)) refl (large_places (next n c) (d * 10) u)))
 
-is_some : (n d : ℕ) → n < 2 ^ 53 → 0 < d → d ≤ 10 ^ 15 → value_of (Some (fraction n d)) ≡ Some (quotient_of n d)
+pub is_some : (n d : ℕ) → n < 2 ^ 53 → 0 < d → d ≤ 10 ^ 15 → value_of (Some (fraction n d)) ≡ Some (quotient_of n d)
 unfolding quotient_of
 is_some n d N P D =
     ap (λ (b : Bool). cond (b && leb d (10 ^ 15)) (Some (round binary64 false n d)) None) (lt-ltb n (2 ^ 53) N)

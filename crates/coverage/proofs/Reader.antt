@@ -1,5 +1,6 @@
 -- What the reader makes of the bytes to come, by where it stands: `resume`. One byte more does not change it. Assumes nothing.
 use Rattle.std.proofs.Common.{◌≡◌, ℕ, ◌+◌, ◌<◌, ◌≤◌, Bool, true, false, cond, ◌&&◌, eqb, ltb, List, [], ◌∷◌, ◌++◌, length, get_or, drop, ⊎_elim, sym, refl, ap, ◌∙◌, subst, arith, lit<, lit≤, eqb-true, lt-ltb}
+use Rattle.std.proofs.Common.{take, add-one, take_all, take-suc, ne_eqb}
 use Rattle.std.proofs.Common.{Option, Some, None, Ok, Err, IfSome, codes}
 use Rattle.std.proofs.Math.Path.{fun_ext}
 use Rattle.std.proofs.lemmas.Bool.{cond_both, ltb-false, agree_below_at, cases_lt}
@@ -8,6 +9,7 @@ use Rattle.std.proofs.lemmas.Option.{slice_get-get_or}
 use Rattle.std.proofs.lemmas.List.Sums.{fold-append}
 use Rattle.std.specs.Prelude.{bytes_eq}
 use Rattle.std.specs.Option.{option_map, option_and_then, unwrap_or}
+use Rattle.std.specs.Char.{is_ascii_digit}
 use lib.Ieee.{Float}
 use Rattle.coverage.specs.declared.CoverageRow.{CoverageRow}
 use Rattle.coverage.specs.declared.Digits.{Digits}
@@ -25,7 +27,7 @@ use Rattle.coverage.proofs.Fitting.{fits_fed}
 -- ---- the rest of a row
 
 -- by what the rest of a number makes
-abbrev fields_from : Field → (List ℕ → Option Float) → List ℕ → Option CoverageRow
+abbrev pub fields_from : Field → (List ℕ → Option Float) → List ℕ → Option CoverageRow
 fields_from Level g w = option_and_then (λ p. both (g p.0) (factor_of p.1)) (cut_at 32 w)
 fields_from (Factor x) g w = both (Some x) (option_and_then g (at_end (cut_at 41 w)))
 
@@ -46,7 +48,7 @@ at_end_on g c None = refl
 at_end_on g c (Some (b, [])) = refl
 at_end_on g c (Some (b, d ∷ s)) = refl
 
-abbrev pair_from : (List ℕ → Option Float) → Option (List ℕ × List ℕ) → Option CoverageRow
+abbrev pub pair_from : (List ℕ → Option Float) → Option (List ℕ × List ℕ) → Option CoverageRow
 pair_from g o = option_and_then (λ (p : List ℕ × List ℕ). both (g p.0) (factor_of p.1)) o
 
 pair_on : (g : List ℕ → Option Float) (c : ℕ) (o : Option (List ℕ × List ℕ)) → pair_from g (option_map (λ p. (c ∷ p.0, p.1)) o) ≡ pair_from (λ u. g (c ∷ u)) o
@@ -67,9 +69,17 @@ no_factor : (x : Float) (o : Option (List ℕ)) → both (Some x) (option_and_th
 no_factor x None = refl
 no_factor x (Some u) = refl
 
-field_none : (f : Field) (w : List ℕ) → fields_from f (λ u. None) w ≡ None
-field_none Level w = no_pair (cut_at 32 w)
-field_none (Factor x) w = no_factor x (at_end (cut_at 41 w))
+pub field_none : (f : Field) (g : List ℕ → Option Float) (w : List ℕ) → ((u : List ℕ) → g u ≡ None) → fields_from f g w ≡ None
+field_none Level g w h = ap (λ (k : List ℕ → Option Float). fields_from Level k w) (fun_ext h) ∙ no_pair (cut_at 32 w)
+field_none (Factor x) g w h = ap (λ (k : List ℕ → Option Float). fields_from (Factor x) k w) (fun_ext h) ∙ no_factor x (at_end (cut_at 41 w))
+
+-- a digit is no stop
+pub digit_stop : (f : Field) (c : ℕ) → is_ascii_digit c ≡ true → eqb c (stop_of f) ≡ false
+digit_stop f c e = ne_eqb c (stop_of f) (λ (h : c ≡ stop_of f). apart f (sym (ap is_ascii_digit h) ∙ e))
+  where
+    apart : (f : Field) → is_ascii_digit (stop_of f) ≡ true → ⊥
+    apart Level p = subst (λ (b : Bool). cond b ⊥ (Unit {0})) p tt
+    apart (Factor x) p = subst (λ (b : Bool). cond b ⊥ (Unit {0})) p tt
 
 -- the number has ended
 behind_level : (o : Option Float) (w : List ℕ) → both o (factor_of w) ≡ option_and_then (λ t. rest_of t w) (option_map (behind_of Level) o)
@@ -93,7 +103,7 @@ field_stop (Factor x) g c w e = rw e (behind_factor x g (g []) w refl)
 -- where the number goes on or not
 more_rest : (f : Field) (o : Option Digits) (w : List ℕ)
     → fields_from f (λ u. option_and_then (λ t. number_from t u) o) w ≡ option_and_then (λ t. rest_of t w) (option_map (λ t. spot.Number f t) o)
-more_rest f None w = field_none f w
+more_rest f None w = field_none f (λ u. None) w (λ u. refl)
 more_rest f (Some s) w = refl
 
 number_rest : (f : Field) (s : Digits) (c : ℕ) (w : List ℕ) → FitsAt (spot.Number f s) []
@@ -354,9 +364,10 @@ unfolding field_after number_after
 field_line Level s = refl
 field_line (Factor x) s = refl
 
-field_end : (f : Field) (s : Digits) → rest_of (spot.Number f s) [] ≡ None
-field_end Level s = refl
-field_end (Factor x) s = refl
+-- the end of a line within a number
+pub field_end : (f : Field) (g : List ℕ → Option Float) → fields_from f g [] ≡ None
+field_end Level g = refl
+field_end (Factor x) g = refl
 
 head_line : (k : ℕ) (rs : List CoverageRow) (q : Lines) → k < 10 → rs ≡ []
     → resume_at (spot.Head k) rs (new_line q) ≡ resume_at (unwrap_or (next_at (spot.Head k) (length rs) 10) (spot.Wrong 1)) rs q
@@ -388,7 +399,7 @@ line : (s : Spot) (rs : List CoverageRow) (q : Lines) → FitsAt s rs
 line (spot.Head k) rs q h = head_line k rs q h.0 h.1
 line (spot.Opening k) rs q h =
     rw (text_is row_opening k 10 h, opening_line k h) (row_line rs (rest_of (spot.Opening k)) q (rw (drop_more row_opening k 0 h)))
-line (spot.Number f s) rs q h = rw (field_line f s) (row_line rs (rest_of (spot.Number f s)) q (field_end f s))
+line (spot.Number f s) rs q h = rw (field_line f s) (row_line rs (rest_of (spot.Number f s)) q (field_end f (number_from s)))
 line (spot.Closed x) rs q h = closed_line x rs (ltb (length rs) 8) q refl
 line spot.Start rs q h = start_line rs q
 line spot.End rs q h = end_line rs q
@@ -437,12 +448,27 @@ begun_rest : (s : List ℕ) → resume begun_of (lines_of s) ≡ form_of s
 unfolding begun_of form_of
 begun_rest s = head_whole (lines_of s)
 
+-- After any list of bytes the reader holds their form.
+pub reader_form : (s : List ℕ) → form_in (fed_all begun_of s) ≡ form_of s
+reader_form s = sym (read s begun_of begun_fits) ∙ begun_rest s
+
 pub loads : Loads
 unfolding load_of
-loads s = ap judged (sym (read s begun_of begun_fits) ∙ begun_rest s)
+loads s = ap judged (reader_form s)
 
 pub fed_more : FedMore
 fed_more l a b = sym (fold-append fed_of l a b)
+
+-- the bytes up to an index, and one more; up to the end they are all
+pub fed_next : (l m : Standing) (s : List ℕ) (i : ℕ) → i < length s → m ≡ fed_all l (take i s) → fed_of m (get_or s i 0) ≡ fed_all l (take (i + 1) s)
+fed_next l m s i h e =
+    ap (λ (k : Standing). fed_of k (get_or s i 0)) e
+    ∙ fed_more l (take i s) (get_or s i 0 ∷ [])
+    ∙ ap (fed_all l) (sym (take-suc s i 0 h))
+    ∙ ap (λ (k : ℕ). fed_all l (take k s)) (sym (add-one i))
+
+pub fed_whole : (l : Standing) (s : List ℕ) (i : ℕ) → length s ≤ i → fed_all l (take i s) ≡ fed_all l s
+fed_whole l s i h = ap (fed_all l) (take_all i s h)
 
 pub loads_file : LoadsFile
 loads_file s r h = h ∙ loads s
@@ -473,12 +499,27 @@ formed_rows spot.Start rs us h e = cc
 formed_rows spot.End rs us h e = cc
 formed_rows (spot.Wrong k) rs us h e = cc
 
-accepted : (l : Standing) (us : List CoverageRow) → Fits l → form_in l ≡ Ok us → (1 ≤ length us) × (length us ≤ 8)
+-- an accepted table is of the rows that the reader holds
+rows_held : (s : Spot) (rs us : List CoverageRow) → form_at s rs ≡ Ok us → us ≡ rs
+rows_held spot.Done rs us e = cc
+rows_held (spot.Head k) rs us e = cc
+rows_held (spot.Opening k) rs us e = cc
+rows_held (spot.Number f s) rs us e = cc
+rows_held (spot.Closed x) rs us e = cc
+rows_held spot.Start rs us e = cc
+rows_held spot.End rs us e = cc
+rows_held (spot.Wrong k) rs us e = cc
+
+pub accepted : (l : Standing) (us : List CoverageRow) → judged (form_in l) ≡ Ok us → us ≡ l.rows
 unfolding form_in
-accepted l us h e =
+accepted l us e = rows_held l.spot l.rows us (if_judged (form_in l) us e)
+
+few_rows : (l : Standing) (us : List CoverageRow) → Fits l → form_in l ≡ Ok us → (1 ≤ length us) × (length us ≤ 8)
+unfolding form_in
+few_rows l us h e =
     let p : (l.rows ≡ us) × (1 ≤ length l.rows) = formed_rows l.spot l.rows us h.0 e in
     subst (λ (rs : List CoverageRow). (1 ≤ length rs) × (length rs ≤ 8)) p.0 (p.1, h.1)
 
 pub accepted_rows : AcceptedRows
 accepted_rows s us e =
-    accepted (fed_all begun_of s) us (fits_all s begun_of begun_fits) (if_judged (form_in (fed_all begun_of s)) us (loads s ∙ e))
+    few_rows (fed_all begun_of s) us (fits_all s begun_of begun_fits) (if_judged (form_in (fed_all begun_of s)) us (loads s ∙ e))

@@ -5,7 +5,7 @@
 ghost use Rattle.std.specs.Prelude.{◌<◌, IfSome};
 
 use coverage::{Loader, Table, TableRefusal};
-use std::io::Read;
+use std::io::{Read, Write};
 use std::{io, mem};
 
 // A file that is being read, and the upper half of its next byte.
@@ -63,14 +63,19 @@ impl Line {
     }
 }
 
+// A table's line goes out in one call, so that no reader finds a part of it: with eight rows it has 299 bytes.
 fn write_table(rt: &HostRuntime, table: &Table) -> io::Result<()> {
-    print!(rt; "(coverage")?;
+    let mut line = [0u8; 512];
+    let mut room: &mut [u8] = &mut line;
+    write!(room, "(coverage")?;
     for row in table.rows() {
         let level = numerals::pattern(row.level);
         let factor = numerals::pattern(row.factor);
-        print!(rt; " ({level:016x} {factor:016x})")?;
+        write!(room, " ({level:016x} {factor:016x})")?;
     }
-    println!(rt; ")")
+    writeln!(room, ")")?;
+    let left = room.len();
+    rt.write_all(&line[..line.len().saturating_sub(left)])
 }
 
 fn write_answer(rt: &HostRuntime, loaded: &Result<Table, TableRefusal>) -> io::Result<()> {

@@ -158,6 +158,9 @@ finished_after None (refuse n i) = refl
 finished_after (Some c) (refuse n i) = refl
 finished_after kept (ask p w k) = refl
 
+pub report_after : (kept : Option Finished) (t : Run Finished) → report_in (meaning.after kept t) ≡ option_map report_of (finished_by kept t)
+report_after kept t = ap (option_map report_of) (finished_after kept t)
+
 -- ---- the invariant
 
 inv_reads : (o : Opening) (t : At) (s : Session) → Inv o t s → ReadsAs s (finished_at o t)

@@ -48,7 +48,7 @@ open_run c x = ask (point_at x.question c.fit.point) (about x.change) (reached c
 edit_asks : (c : Finished) (x : OpenEdit) → edit_left c x.change x.question (all_rows x.row) ≡ open_run c x
 edit_asks c x = ap (λ (t : Run Rows). bind t (ended_with c (edit_of x.change))) (stencil_asks x.question c.fit.point (about x.change) (all_rows x.row))
 
-open_state : (c : Finished) (x : OpenEdit) → Fits c x.change → open_in (standing c) x ≡ asking (Some c) (open_run c x)
+pub open_state : (c : Finished) (x : OpenEdit) → Fits c x.change → open_in (standing c) x ≡ asking (Some c) (open_run c x)
 open_state c x f = rw (f, edit_asks c x)
 
 -- while an edit has a question open, no finished run stands
@@ -118,22 +118,34 @@ module _ (s : Session) (none : s.edit ≡ None) (said : Said) (r : Running) wher
 abbrev pub Goes : Running → Finished → Said → Session → Run Finished → Type 0
 Goes s c said r t = Stands seen said r (sizes_of s.body) (Some c) s.asked t
 
+-- what an answer stands for, by a run, or by an answer, that is the same
+module _ {z : Sizes} {kept : Option Finished} {n : ℕ} where
+  pub stands_same : {said : Said} {r : Session} {t u : Run Finished} → Stands seen said r z kept n t → t ≡ u → Stands seen said r z kept n u
+  stands_same {said} {r} d e = subst (Stands seen said r z kept n) e d
+
+  pub stands_as : {said saying : Said} {r q : Session} {t : Run Finished} → said ≡ saying → r ≡ q → Stands seen saying q z kept n t
+      → Stands seen said r z kept n t
+  stands_as {said} {saying} {r} {q} {t} e f d =
+      subst (λ (x : Said). Stands seen x r z kept n t) (sym e) (subst (λ (x : Session). Stands seen saying x z kept n t) (sym f) d)
+
 module _ (s : Running) (c : Finished) (at : run.state s ≡ standing c) where
   -- it ends with a refusal: the finished run stands as before
-  refused_stands : (n i : ℕ) → Goes s c (refusal n i) (shut s) (refuse n i)
+  pub refused_stands : (n i : ℕ) → Goes s c (refusal n i) (shut s) (refuse n i)
   refused_stands n i = record { leads = at; says = refl; counts = refl; sized = tt }
 
   -- it ends with its change made
-  changed_stands : (r : Running) (e : Edit) (one : Rows) → placed e (length c.requested) ≡ true → roomy e (length c.requested) ≡ true → Changed s e one r
-      → Goes s c report (shut r) (done (renewed c e one))
-  changed_stands r e one p m d =
+  pub changed_stands : (r : Running) (d : Finished) → (run.state r ≡ standing d) × (r.asked ≡ s.asked) → Goes s c report (shut r) (done d)
+  changed_stands r d h = record { leads = h.0; says = refl; counts = h.1; sized = tt }
+
+  pub change_made : (r : Running) (e : Edit) (one : Rows) → placed e (length c.requested) ≡ true → roomy e (length c.requested) ≡ true → Changed s e one r
+      → (run.state r ≡ standing (renewed c e one)) × (r.asked ≡ s.asked)
+  change_made r e one p m d =
       let A = (run.state r ≡ standing (renewed c e one)) × (r.asked ≡ s.asked) in
       let fits : (placed e (length c.requested) && roomy e (length c.requested)) ≡ true = rw (p, m) in
-      let h : A = subst (λ (b : Bool). either b A (r ≡ s)) fits (subst (λ (t : State). changed_from t s e one r) at d.is) in
-      record { leads = h.0; says = refl; counts = h.1; sized = tt }
+      subst (λ (b : Bool). either b A (r ≡ s)) fits (subst (λ (t : State). changed_from t s e one r) at d.is)
 
   -- it has a question open
-  asks_stands : (x : OpenEdit) → Fits c x.change
+  pub asks_stands : (x : OpenEdit) → Fits c x.change
       → (let q = point_at x.question c.fit.point in Goes s c (question q.mv q.bc New) (asks_with s x) (edit_left c x.change x.question (all_rows x.row)))
   asks_stands x f = record {
     leads = ap (λ (t : State). open_in t x) at ∙ open_state c x f ∙ sym (ap (after (Some c)) (edit_asks c x));
@@ -151,17 +163,17 @@ module _ (s : Running) (c : Finished) (at : run.state s ≡ standing c) where
 
     pub last_of_five : (r : Running) → next_of k ≡ None → row.gap ≡ 0 → Changed s (edit_of change) (rows_from (row_from row)) r
         → Goes s c report (shut r) (next_left c change k p (all_rows row))
-    last_of_five r e g d = rw (e, g) (changed_stands r (edit_of change) (rows_from (row_from row)) (grind arith) (grind arith) d)
+    last_of_five r e g d = rw (e, g) (changed_stands r _ (change_made r (edit_of change) (rows_from (row_from row)) (grind arith) (grind arith) d))
 
 -- the finished run that an open edit is of
-record Open (s : Running) (x : OpenEdit) (p : Point) : Type 0 where
-  of : Finished
-  stands : run.state s ≡ standing of
-  point : of.fit.point ≡ p
-  fits : Fits of x.change
+pub record Open (s : Running) (x : OpenEdit) (p : Point) : Type 0 where
+  pub of : Finished
+  pub stands : run.state s ≡ standing of
+  pub point : of.fit.point ≡ p
+  pub fits : Fits of x.change
 
 module _ (s : Running) (x : OpenEdit) (p : Point) (here : open_point (fitted_in (run.state s)) (edit_of x.change) ≡ Some p) where
-  opened : Open s x p
+  pub opened : Open s x p
   opened = by (run.state s) refl here
     where
       by : (t : State) → run.state s ≡ t → open_point (fitted_in t) (edit_of x.change) ≡ Some p → Open s x p
@@ -234,7 +246,9 @@ module _ (s : Session) (p : Point) (n : ℕ) (here : fitted_in (state s) ≡ Som
   pub taken_out : (place : ℕ) (one : Rows) (r : Running) → placed (take_out place) n ≡ true → Changed s.run (take_out place) one r
       → Edited seen s (take_out place) report (shut r)
   unfolding edit
-  taken_out place one r q d = edit_stands (take_out place) _ _ q (λ c at point size. changed_stands s.run c at r (take_out place) one (rw (size, q)) refl d)
+  taken_out place one r q d =
+      edit_stands (take_out place) _ _ q
+      (λ c at point size. changed_stands s.run c at r _ (change_made s.run c at r (take_out place) one (rw (size, q)) refl d))
 
 -- an edit that brings a distance: refused by its size or by the distance, or its questions are put
 abbrev checked : Finished → Change → Requested → ℕ → Rows → Run Finished

@@ -66,7 +66,14 @@ fn declined(s: Session, code: RefusalCode) -> Answer
 fn of_run(a: session::Answer) -> Answer
     ensures { result ≡ of_run a }
 {
-    closed_with(a.session, a.step)
+    // Not by `closed_with`: that would copy the session once more for each reply.
+    Answer {
+        step: a.step,
+        session: Session {
+            run: a.session,
+            edit: None,
+        },
+    }
 }
 
 // An edit ends, with the run that stands then.

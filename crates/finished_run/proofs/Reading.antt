@@ -90,7 +90,7 @@ module _ (s : Session) (h : UncertaintyTruingReportV1) (n m : ℕ) (baseline : O
     has_outside = sym (is-outside few_shots);
   })
 
-  head_of : HeadOf h whole
+  pub head_of : HeadOf h whole
   head_of = record {
     seen = head_lists h _ _ _ whole seen;
     results = shows.results ∙ sym (ap (λ (p : Report). length p.observations) seen ∙ results.results few_shots);

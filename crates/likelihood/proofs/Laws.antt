@@ -3,12 +3,12 @@ use Rattle.std.specs.Prelude.{Option, None, Some}
 use Rattle.std.specs.List.{position, prefix_len}
 use Rattle.std.specs.Prelude.{ltb, not, unwrap_or, slice_get}
 use Rattle.std.proofs.lemmas.Option.{slice_get_past}
-use Rattle.definition.specs.Run.{drop_or0}
+use Rattle.definition.specs.Run.{Entry, is_missing, drop_or0}
 use Rattle.std.proofs.lemmas.Bool.Decides.{nat_tests}
 use Prim.Native.Nat.{ℕ, zero, suc, ◌+◌, ◌≤◌, ◌<◌, min}
 use mathlib.Core.Path.{◌≡◌, refl, sym, ap, ◌∙◌}
-use mathlib.Core.Bool.{Bool, true, false, cond}
-use mathlib.Core.List.{List, [], ◌∷◌, ◌++◌, map}
+use mathlib.Core.Bool.{Bool, true, false, cond, ◌||◌}
+use mathlib.Core.List.{List, [], ◌∷◌, ◌++◌, map, foldl}
 use native.Mathlib.Nat.{not-suc-le-zero, le_of_suc-le-suc}
 use native.Mathlib.Omega.{arith}
 use native.Mathlib.Numerals.{add-one}
@@ -251,6 +251,12 @@ drop_or_zero (Some x) = refl
 pub drop_at : (es : List (Option Float)) (i : ℕ) → unwrap_or (get_or es i None) zero64 ≡ get_or (map drop_or0 es) i zero64
 drop_at es i = drop_or_zero (get_or es i None) ∙ sym (get_or-map drop_or0 es i None)
 
+-- where none is missing, the drops are the reply's
+pub entries_drops : (es : List Entry) → first_at is_missing es ≡ 0 → map (λ (d : Float). Some d) (map drop_or0 es) ≡ es
+entries_drops [] z = refl
+entries_drops (None ∷ es) z = absurd (omega arith)
+entries_drops (Some d ∷ es) z = ap (λ (r : List Entry). Some d ∷ r) (entries_drops es (cond_none false (first_at is_missing es) z).1)
+
 -- ---- the sums over arrays of which the first n places are in use
 
 pub chi_square_take : (obs : List Observation) (drops : List Float) (n : ℕ) → length drops ≤ n → chi_square_of (take n obs) drops ≡ chi_square_of obs drops
@@ -310,3 +316,20 @@ module _ {A : Type 0} (t : A → Bool) where
 
   pub position_within : (l : List A) (i : ℕ) → position t l ≡ Some i → i < length l
   position_within l i e = inside (prefix_len (λ y. not (t y)) l) (length l) i e
+
+-- ---- whether any passes a test, without an early end
+
+module _ {A : Type 0} (t : A → Bool) where
+  found_stays : (l : List A) → foldl (λ (found : Bool) (x : A). found || t x) true l ≡ true
+  found_stays [] = refl
+  found_stays (x ∷ l) = found_stays l
+
+  none_next : (b : Bool) (l : List A) → foldl (λ (found : Bool) (x : A). found || t x) b l ≡ false
+      → (foldl (λ (found : Bool) (x : A). found || t x) false l ≡ false → first_at t l ≡ 0) → cond b 1 (next (first_at t l)) ≡ 0
+  none_next true l e f = let s = found_stays l in absurd (cc)
+  none_next false l e f = rw (f e)
+
+  -- none is found, so none is the first
+  pub none_found : (l : List A) → foldl (λ (found : Bool) (x : A). found || t x) false l ≡ false → first_at t l ≡ 0
+  none_found [] e = refl
+  none_found (x ∷ l) e = none_next (t x) l e (none_found l)

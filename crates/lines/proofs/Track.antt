@@ -114,16 +114,16 @@ map_snoc : {A B : Type 0} (f : A → B) (xs : List A) (x : A) → map f (xs ++ (
 map_snoc f [] x = refl
 map_snoc f (y ∷ xs) x = ap (λ ys. f y ∷ ys) (map_snoc f xs x)
 
-feed_first : (w : List ℕ) → length w ≤ 20 → feed_of start_of w ≡ Some (line_of w [])
+pub feed_first : (w : List ℕ) → length w ≤ 20 → feed_of start_of w ≡ Some (line_of w [])
 unfolding feed_of
 feed_first w h = rw (le-ltb 20 (length w) h) refl
 
-feed_next : (w : List ℕ) (ws : List (List ℕ)) (s : List ℕ) → length s ≤ 20 → feed_of (line_of w ws) s ≡ Some (line_of w (ws ++ (s ∷ [])))
+pub feed_next : (w : List ℕ) (ws : List (List ℕ)) (s : List ℕ) → length s ≤ 20 → feed_of (line_of w ws) s ≡ Some (line_of w (ws ++ (s ∷ [])))
 unfolding feed_of
 feed_next w ws s h =
     rw (le-ltb 20 (length s) h, entry_is s, kept_behind (entries_read ws) (entry_read s), ← entries_snoc ws s, take_cut 5 (map word_reading (w ∷ ws)) (word_reading s ∷ []), ← map_snoc word_reading ws s) refl
 
-feed_long : (l : Line) (s : List ℕ) → long s ≡ true → feed_of l s ≡ None
+pub feed_long : (l : Line) (s : List ℕ) → long s ≡ true → feed_of l s ≡ None
 unfolding feed_of
 feed_long l s h = rw h refl
 

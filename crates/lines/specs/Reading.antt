@@ -73,6 +73,11 @@ feed_of l s =
       entries = after_first l.words.items l.entries (reading_or (word_reading s) word.Missing);
     }))
 
+-- the line, where it may still be a form
+abbrev pub fed_to : Bool → Line → Option Line
+fed_to true l = Some l
+fed_to false l = None
+
 -- ---- the form of what was read
 
 abbrev pub requested_of : Option Float → Option (Option Float) → Option Requested

@@ -2,9 +2,9 @@
 #![tactic(auto)]
 
 ghost use Rattle.std.specs.Prelude.{◌≡◌, true, false, Some, None};
-ghost use Rattle.std.specs.Option.{option_map};
+ghost use Rattle.std.specs.Option.{option_map, option_and_then};
 ghost use Rattle.lines.specs.Lines.{with1, with2, with3, entered_of, shot_of, prior_of, distance_of, open_of, take_out_of};
-ghost use Rattle.lines.specs.Reading.{word_reading, is_word, reading_or, start_of, entries_with, feed_of, form_says, form_in, requested_in, change_in, opened_if, closed_if, take_of};
+ghost use Rattle.lines.specs.Reading.{word_reading, is_word, reading_or, start_of, entries_with, feed_of, fed_to, form_says, form_in, requested_in, change_in, opened_if, closed_if, take_of};
 
 use definition::{NormalPriorV1, Point, TruingPredictionRequestV1, WeightedTruingObservationV1};
 use fixed_list::{Blank, FixedList};
@@ -88,12 +88,17 @@ impl Reading {
     }
 }
 
-fn with_entry(entries: Option<Entries>, word: Reading) -> Option<Entries>
-    ensures { result ≡ entries_with entries (reading_or word Word.Missing) }
+// The entry that the word is, behind the others; none is kept from where a word is no entry.
+fn with_entry(entries: &mut Option<Entries>, word: Reading)
+    ensures { entries.new ≡ entries_with entries.old (reading_or word Word.Missing) }
 {
-    let mut entries = entries?;
-    let _ = entries.try_push(word.or(Word::Missing)?);
-    Some(entries)
+    let Some(entry) = word.or(Word::Missing) else {
+        *entries = None;
+        return;
+    };
+    if let Some(entries) = entries {
+        let _ = entries.try_push(entry);
+    }
 }
 
 impl Line {
@@ -106,40 +111,43 @@ impl Line {
         }
     }
 
-    // One word more, without parentheses. No word of a form has more than 20 bytes.
+    // One word more, without parentheses: whether the line may still be a form. No word of a form has more than 20 bytes. Where five words are read that are no
+    // reply, a further one changes nothing.
     #[tactic(auto, unfolding(crate::specs::Reading::feed_of))]
-    fn feed(self, s: &[u8]) -> Option<Line>
-        ensures { result ≡ feed_of self s.now }
+    fn feed(&mut self, s: &[u8]) -> bool
+        ensures { fed_to result self.new ≡ feed_of self.old s.now }
     {
         if s.len() > 20 {
-            return None;
+            return false;
+        }
+        if self.words.len() == 5 && self.entries.is_none() {
+            return true;
         }
         let word = Reading::of(s);
-        let Line { mut words, entries } = self;
-        let entries = if words.is_empty() {
-            entries
-        } else {
-            with_entry(entries, word)
-        };
-        let _ = words.try_push(word);
-        Some(Line { words, entries })
+        if !self.words.is_empty() {
+            with_entry(&mut self.entries, word);
+        }
+        let _ = self.words.try_push(word);
+        true
     }
 
     // One word more, with a blank behind it. A line's first word begins with (.
     // Kept: `first` is where the word stands in its line, which the reader of the bytes knows.
-    #[tactic(auto, unfolding(crate::specs::Reading::take_of))]
     pub fn take(self, word: &[u8], first: bool) -> Option<Line>
         ensures { result ≡ take_of (Some self) word.now first false }
     {
-        self.feed(opened(word, first)?)
+        let mut line = Some(self);
+        take_word(&mut line, word, first, false);
+        line
     }
 
     // The last word, which ends with ).
-    #[tactic(auto, unfolding(crate::specs::Reading::take_of))]
     pub fn end(self, word: &[u8], first: bool) -> Option<Line>
         ensures { result ≡ take_of (Some self) word.now first true }
     {
-        self.feed(closed(opened(word, first)?)?)
+        let mut line = Some(self);
+        take_word(&mut line, word, first, true);
+        line
     }
 
     // What the words that are read come to, where the line ends there.
@@ -165,6 +173,21 @@ impl Line {
             Word::Page if fields.is_empty() => Some(Form::Page),
             _ => None,
         }
+    }
+}
+
+// One word more of the line, in place, with the parentheses that it has: the line's first word begins with (, its last ends with ).
+#[tactic(auto, unfolding(crate::specs::Reading::take_of))]
+pub fn take_word(line: &mut Option<Line>, word: &[u8], first: bool, last: bool)
+    ensures { line.new ≡ take_of line.old word.now first last }
+{
+    let Some(open) = line else { return };
+    let still = match bare(word, first, last) {
+        Some(s) => open.feed(s),
+        None => false,
+    };
+    if !still {
+        *line = None;
     }
 }
 
@@ -271,4 +294,12 @@ fn closed(word: &[u8]) -> Option<&[u8]>
     ensures { option_map (λ s. s.now) result ≡ closed_if true word.now }
 {
     word.strip_suffix(b")")
+}
+
+// A word without the parentheses that it has.
+fn bare(word: &[u8], first: bool, last: bool) -> Option<&[u8]>
+    ensures { option_map (λ s. s.now) result ≡ option_and_then (closed_if last) (opened_if first word.now) }
+{
+    let word = opened(word, first)?;
+    if last { closed(word) } else { Some(word) }
 }

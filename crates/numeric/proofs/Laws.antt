@@ -1,7 +1,16 @@
 -- What the code's tests say of a double, as the definitions by cases have it. Other crates may cite them. Assumes nothing.
 use mathlib.Core.Path.{◌≡◌, refl}
+use Prim.Native.Nat.{ℕ, zero, suc, ◌+◌, ◌-◌, ◌*◌, ◌^◌, ◌≤◌, ◌<◌}
+use native.Mathlib.Nat.{mul-pos}
+use native.Mathlib.Omega.{arith}
 use mathlib.Core.Bool.{Bool, true, false, cond, ◌&&◌, ◌||◌}
-use lib.Ieee.{Float, nan, inf, fin, binary64, div, lt, eq, is_nan, of_bits}
+use lib.IntN.{ℤ, pos, negsuc}
+use borrow.Author.Tests.{ltb-true, ltb-false, eqb-true, le-ltb, eq-eqb}
+use lib.Dec.{eqb}
+use lib.Pow.{pow_pos}
+use lib.Ieee.{Float, nan, inf, fin, binary64, up, down, round, sub, div, neg, lt, eq, ne, is_nan, fits, of_bits}
+use lib.Ieee.Fits.{up_pos, down_pos}
+use lib.Ieee.Scale.{round_same}
 use Rattle.std.specs.Float.{float_is_finite, float_is_infinite, float_with_sign, one_eighty, pi}
 use Rattle.numeric.proofs.Order.{not_below_itself}
 use Rattle.numeric.specs.Drop.{degrees_per_radian}
@@ -32,6 +41,96 @@ nan_is = refl
 pub degrees_is : div binary64 (one_eighty binary64) (pi binary64) ≡ degrees_per_radian
 unfolding div of_bits
 degrees_is = refl
+
+-- ---- a double by its own comparisons, without the library's methods
+
+never : ◌≡◌ false true → ⊥
+never h = let z : ◌≡◌ {A = ℕ} 0 1 = cc in omega arith
+
+-- a number less itself is +0
+nothing_left : (a c : ℕ) → 0 < c → round binary64 false (a - a) c ≡ zero64
+unfolding of_bits round
+nothing_left a c h =
+    let z : a - a ≡ 0 = omega arith in
+    rw z (round_same binary64 false 0 c 0 1 h (omega arith) (omega arith))
+
+-- `x - x == 0.0` says that x is finite
+pub finite_by_difference : (x : Float) → eq (sub binary64 x x) zero64 ≡ finite x
+unfolding finite sub eq of_bits
+finite_by_difference nan = refl
+finite_by_difference (inf true) = refl
+finite_by_difference (inf false) = refl
+finite_by_difference (fin true m e) =
+    let a = m * up e * down e in
+    simp (le-ltb a a (omega arith), nothing_left a (down e * down e) (mul-pos (down_pos e) (down_pos e)))
+finite_by_difference (fin false m e) =
+    let a = m * up e * down e in
+    simp (le-ltb a a (omega arith), nothing_left a (down e * down e) (mul-pos (down_pos e) (down_pos e)))
+
+-- what is finite is a number
+pub data Number : Float → Type 0 where
+  number : (s : Bool) (m : ℕ) (e : ℤ) → Number (fin s m e)
+
+pub finite_number : (x : Float) → finite x ≡ true → Number x
+unfolding finite
+finite_number nan h = absurd (never h)
+finite_number (inf s) h = absurd (never h)
+finite_number (fin s m e) h = number s m e
+
+-- `x != x` says that x is a not-a-number
+pub nan_by_difference : (x : Float) → ne x x ≡ is_nan x
+unfolding is_nan ne
+nan_by_difference nan = refl
+nan_by_difference (inf true) = refl
+nan_by_difference (inf false) = refl
+nan_by_difference (fin true m e) = let a = m * up e * down e in simp (eq-eqb a a refl)
+nan_by_difference (fin false m e) = let a = m * up e * down e in simp (eq-eqb a a refl)
+
+and_left : (a b : Bool) → a && b ≡ true → a ≡ true
+and_left true b h = refl
+and_left false b h = h
+
+-- no power of two above the first is 1
+not_one : (k n : ℕ) → eqb n 1 ≡ true → n ≡ 2 ^ suc k → ⊥
+not_one k n h p = omega (arith, eqb-true n 1 h, pow_pos k)
+
+-- the absolute value, by the tests `x < 0.0` and `x == 0.0`
+pub abs_below : (x : Float) → lt x zero64 ≡ true → neg x ≡ abs_of x
+unfolding abs_of neg lt of_bits
+abs_below nan h = cc
+abs_below (inf true) h = refl
+abs_below (inf false) h = cc
+abs_below (fin true m e) h = refl
+abs_below (fin false m e) h =
+    let l : m * up e * 1 < 0 * 1 * down e = ltb-true (m * up e * 1) (0 * 1 * down e) h in
+    absurd (omega arith)
+
+pub abs_level : (x : Float) → fits binary64 x ≡ true → eq x zero64 ≡ true → zero64 ≡ abs_of x
+unfolding abs_of eq of_bits fits
+abs_level nan f h = cc
+abs_level (inf s) f h = cc
+abs_level (fin s zero (pos zero)) f h = refl
+abs_level (fin s zero (pos (suc k))) f h = absurd (not_one k (2 ^ suc k * 1) f (omega arith))
+abs_level (fin s zero (negsuc k)) f h = absurd (not_one k (1 * 2 ^ suc k) f (omega arith))
+abs_level (fin s (suc m) e) f h =
+    let l : suc m * up e * 1 ≡ 0 * 1 * down e = eqb-true (suc m * up e * 1) (0 * 1 * down e) (and_left _ _ h) in
+    let p : 0 < suc m * up e = mul-pos (omega arith) (up_pos e) in
+    absurd (omega arith)
+
+pub abs_other : (x : Float) → lt x zero64 ≡ false → eq x zero64 ≡ false → x ≡ abs_of x
+unfolding abs_of lt eq of_bits
+abs_other nan h k = refl
+abs_other (inf true) h k = cc
+abs_other (inf false) h k = refl
+abs_other (fin true m e) h k =
+    let a = m * up e * 1 in
+    let b = 0 * 1 * down e in
+    let l : a + b ≤ 0 = ltb-false 0 (a + b) h in
+    let z : ◌≡◌ true false = simp (eq-eqb a b (omega arith), eq-eqb a 0 (omega arith)) at k in
+    cc
+abs_other (fin false m e) h k = refl
+
+-- ---- max, clamp and hypot
 
 -- the larger, by one test
 pub max_by_tests : (x y : Float) → max_of x y ≡ cond (is_nan x || lt x y) y x

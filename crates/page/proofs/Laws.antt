@@ -1,10 +1,11 @@
 -- The lists of the report that stands, line by line; the parts of its page; how many lines it has.
-use Rattle.std.specs.Prelude.{Option, None, Some, option_map}
-use Prim.Native.Nat.{ℕ, ◌+◌, ◌≤◌}
+use Rattle.std.specs.Prelude.{Option, None, Some, option_map, slice_get}
+use Prim.Native.Nat.{ℕ, suc, ◌+◌, ◌≤◌}
 use mathlib.Core.Path.{◌≡◌, refl, sym, ap, ◌∙◌, subst}
-use mathlib.Core.List.{[], map, append_assoc}
+use mathlib.Core.List.{List, [], ◌∷◌, ◌++◌, map, map-append, append-nil, append_assoc}
+use native.Mathlib.Numerals.{add-one}
 use native.Mathlib.Omega.{arith}
-use lib.ListN.{length}
+use lib.ListN.{length, take}
 use Rattle.definition.specs.Session.{State, asking, standing, over}
 use Rattle.definition.specs.Summary.{Finished, report_of}
 use Rattle.coverage.specs.Rows.{Table, rows_under}
@@ -21,20 +22,32 @@ use Rattle.editing.specs.Meaning.{state}
 use Rattle.editing.specs.declared.Session.{Session}
 use Rattle.covered_report.specs.Reading.{covered_in, ShowsUnder, ReportReadUnder}
 use Rattle.covered_report.proofs.Laws.{bands_under}
+use Rattle.report_text.specs.Writing.{Text}
 use Rattle.report_text.specs.Writer.{Held, put}
 use Rattle.report_text.specs.Lists.{present, separated}
 use Rattle.report_text.proofs.Lengths.{Bounded}
 use Rattle.report_text.proofs.Putting.{put_put}
 use Rattle.answer_text.specs.Answers.{texts_in}
+use Rattle.answer_text.proofs.ByPlace.{taken}
 use Rattle.answer_text.proofs.Laws.{said_texts, listed}
 use Rattle.answer_text.proofs.Fits.{shown_bounded}
 use Rattle.page_text.specs.Page.{shot_line, band_line, warning_line, joined_lines, page_text, lines_in, page_in}
 use Rattle.page_text.specs.Pieces.{head_text}
 use Rattle.page_text.proofs.Lengths.{page_length as page-length-of}
-use Rattle.page_text.proofs.Laws.{by_nothing, page_parts, lines_count}
+use Rattle.page_text.proofs.Laws.{by_nothing, joined_append, page_parts, lines_count}
 use Rattle.page.specs.Shown.{shown_page}
 
 -- ---- the lists
+
+-- one line more
+pub next_line_lem : {A : Type 0} (f : A → Text) (l : List A) (i : ℕ) (a : A) → slice_get l i ≡ Some a
+    → joined_lines (map f (take i l)) ++ f a ≡ joined_lines (map f (take (i + 1) l))
+next_line_lem {A} f l i a e =
+    sym (ap (λ (n : ℕ). joined_lines (map f (take n l))) (add-one i)
+    ∙ ap (λ (m : List A). joined_lines (map f m)) (taken l i a e).0
+    ∙ ap joined_lines (map-append f (take i l) (a ∷ []))
+    ∙ joined_append (map f (take i l)) (f a ∷ [])
+    ∙ ap (λ (s : Text). joined_lines (map f (take i l)) ++ s) (append-nil (f a)))
 
 -- a band that is read, its line by the last of its intervals' rows
 pub band_lines : (t : Table) {x : State} {i : ℕ} {r : Option TruingPredictiveBandV1} → BandRead x i r

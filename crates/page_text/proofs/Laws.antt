@@ -97,7 +97,7 @@ warn_length : (stands : Bool) (code : TruingUncertaintyWarningCodeV1) (l : List 
 warn_length true code l = omega arith
 warn_length false code l = omega arith
 
-codes_length : (w : Warnings)
+pub codes_length : (w : Warnings)
     → length (codes_of w)
     ≡ cond w.optimizer_did_not_converge 1 0
     + (cond w.objective_mesh_convergence 1 0

@@ -20,7 +20,7 @@ use Rattle.phases.specs.declared.Next.{Next}
 
 -- ---- runs that are equal
 
-leads_same : {t : Next} {f g : Continuation} → Leads t f → ((m : Measured) (ds : List Requested) → f m ds ≡ g m ds) → Leads t g
+pub leads_same : {t : Next} {f g : Continuation} → Leads t f → ((m : Measured) (ds : List Requested) → f m ds ≡ g m ds) → Leads t g
 leads_same l e = record {
   leads = λ h. l.leads h ∙ ap (after None) (e h.measured h.requested);
   says = λ h. l.says h ∙ ap head (e h.measured h.requested);

@@ -1,18 +1,32 @@
 -- The places and the lengths of the lists, and that a list is read whole by its places.
-use Rattle.std.proofs.Common.{◌≡◌, ℕ, Bool, zero, suc, List, [], ◌∷◌, length, refl, sym, ◌∙◌, arith}
-use Rattle.std.specs.Prelude.{Option, None, Some, is_some, slice_get}
-use Rattle.definition.specs.Lists.{any, zip_with}
+use Rattle.std.proofs.Common.{◌≡◌, ℕ, Bool, zero, suc, ◌<◌, ◌≤◌, List, [], ◌∷◌, length, get_or, refl, sym, ap, ◌∙◌, arith}
+use Rattle.std.specs.Prelude.{Option, None, Some, Float, is_some, slice_get}
+use Rattle.std.proofs.lemmas.Option.{slice_get-get_or, slice_get_past}
+use Rattle.definition.specs.Lists.{any, zip_with, zip_with3}
 use Rattle.definition.specs.Request.{Observation, Requested}
-use Rattle.definition.specs.Summary.{converged, ranges_of, observed_min, observed_max, is_outside, report_of, Finished}
+use Rattle.definition.specs.Summary.{
+  Approximation,
+  converged,
+  ranges_of,
+  observed_min,
+  observed_max,
+  is_outside,
+  result_of,
+  results_of,
+  band_of,
+  report_of,
+  Finished,
+}
 use Rattle.definition.specs.Likelihood.{rows_of}
-use Rattle.definition.specs.Meaning.{convergence_of}
+use Rattle.definition.specs.Meaning.{observation_of, observations_of, convergence_of}
+use Rattle.definition.specs.declared.Row.{Row}
 use Rattle.definition.specs.declared.Convergence.{Convergence}
 use Rattle.definition.specs.declared.Convergence.TheVariants.{ScaledGradient, ObjectiveMesh}
 use Rattle.definition.specs.declared.TruingPriorsV1.{TruingPriorsV1}
 use Rattle.likelihood.proofs.Laws as zips
 use Rattle.fitting.specs.declared.Progress.{Progress}
 use Rattle.warnings.specs.Warnings.{nearest_of, farthest_of, outside_of}
-use Rattle.warnings.proofs.Laws.{any_listed}
+use Rattle.warnings.proofs.Laws.{any_listed, observed_ranges}
 use Rattle.report.specs.declared.TruingBaselineV1.{TruingBaselineV1}
 use Rattle.report.specs.declared.UncertaintyTruingReportV1.{UncertaintyTruingReportV1}
 use Rattle.report.specs.Report.{Results, PartsOf, Shows}
@@ -55,6 +69,78 @@ module _ {A B C : Type 0} (f : A → B → C) where
   pub zip_length : (xs : List A) (ys : List B) → length ys ≡ length xs → length (zip_with f xs ys) ≡ length xs
   zip_length xs ys e = omega (arith, zips.zip_length f xs ys)
 
+-- ---- one equation for every place
+
+-- two that are there together, or three
+abbrev pub both : {A B C : Type 0} → (A → B → C) → Option A → Option B → Option C
+both f (Some a) (Some b) = Some (f a b)
+both f (Some a) None = None
+both f None b = None
+
+abbrev pub three : {A B C D : Type 0} → (A → B → C → D) → Option A → Option B → Option C → Option D
+three f (Some a) (Some b) (Some c) = Some (f a b c)
+three f (Some a) (Some b) None = None
+three f (Some a) None c = None
+three f None b c = None
+
+module _ {A : Type 0} where
+  pub nth_at : (d : A) (xs : List A) (i : ℕ) → i < length xs → slice_get xs i ≡ Some (get_or xs i d)
+  nth_at d xs i h = slice_get-get_or xs i d h
+
+  pub nth_past : (xs : List A) (i : ℕ) → length xs ≤ i → slice_get xs i ≡ None
+  nth_past xs i h = slice_get_past xs i h
+
+-- nothing goes with what is not there
+both_none : {A B C : Type 0} (f : A → B → C) (o : Option A) → both f o None ≡ None
+both_none f None = refl
+both_none f (Some a) = refl
+
+three_none_2 : {A B C D : Type 0} (f : A → B → C → D) (o : Option A) (q : Option C) → three f o None q ≡ None
+three_none_2 f None q = refl
+three_none_2 f (Some a) q = refl
+
+three_none_3 : {A B C D : Type 0} (f : A → B → C → D) (o : Option A) (q : Option B) → three f o q None ≡ None
+three_none_3 f None q = refl
+three_none_3 f (Some a) None = refl
+three_none_3 f (Some a) (Some b) = refl
+
+-- a place of lists that are read together is there where it is in each of them
+pub nth_zip : {A B C : Type 0} (f : A → B → C) (xs : List A) (ys : List B) (i : ℕ) → slice_get (zip_with f xs ys) i ≡ both f (slice_get xs i) (slice_get ys i)
+nth_zip f [] ys i = refl
+nth_zip f (a ∷ xs) [] zero = refl
+nth_zip f (a ∷ xs) [] (suc i) = sym (both_none f (slice_get xs i))
+nth_zip f (a ∷ xs) (b ∷ ys) zero = refl
+nth_zip f (a ∷ xs) (b ∷ ys) (suc i) = nth_zip f xs ys i
+
+pub nth_zip3 : {A B C D : Type 0} (f : A → B → C → D) (xs : List A) (ys : List B) (zs : List C) (i : ℕ)
+    → slice_get (zip_with3 f xs ys zs) i ≡ three f (slice_get xs i) (slice_get ys i) (slice_get zs i)
+nth_zip3 f [] ys zs i = refl
+nth_zip3 f (a ∷ xs) [] zs zero = refl
+nth_zip3 f (a ∷ xs) [] zs (suc i) = sym (three_none_2 f (slice_get xs i) (slice_get zs (suc i)))
+nth_zip3 f (a ∷ xs) (b ∷ ys) [] zero = refl
+nth_zip3 f (a ∷ xs) (b ∷ ys) [] (suc i) = sym (three_none_3 f (slice_get xs i) (slice_get ys i))
+nth_zip3 f (a ∷ xs) (b ∷ ys) (c ∷ zs) zero = refl
+nth_zip3 f (a ∷ xs) (b ∷ ys) (c ∷ zs) (suc i) = nth_zip3 f xs ys zs i
+
+-- an observation result, and a band, by what stands at its place
+pub results_at_lem : (r d s p : List Float) (i : ℕ)
+    → slice_get (results_of (observations_of r d s) p) i
+    ≡ both result_of (three observation_of (slice_get r i) (slice_get d i) (slice_get s i)) (slice_get p i)
+results_at_lem r d s p i =
+    nth_zip result_of (observations_of r d s) p i
+    ∙ ap (λ (o : Option Observation). both result_of o (slice_get p i)) (nth_zip3 observation_of r d s i)
+
+pub bands_at_lem : (a : Approximation) (ds : List Requested) (rows : List Row) (i : ℕ)
+    → slice_get (zip_with (band_of a) ds rows) i ≡ both (band_of a) (slice_get ds i) (slice_get rows i)
+bands_at_lem a ds rows i = nth_zip (band_of a) ds rows i
+
+-- three lists of one length, read together, have that length
+pub zip3_length : {A B C D : Type 0} (f : A → B → C → D) (xs : List A) (ys : List B) (zs : List C) → length ys ≡ length xs → length zs ≡ length xs
+    → length (zip_with3 f xs ys zs) ≡ length xs
+zip3_length f xs ys zs e g = omega (arith, zips.zip3_length f xs ys zs)
+
+-- ---- the head
+
 -- where predicted drops and rows are there for all of them, the head's two counts are the lengths of the report's lists
 module _
     {r : UncertaintyTruingReportV1} {n wanted : ℕ} {g : Progress} {priors : TruingPriorsV1} {baseline : Option TruingBaselineV1} {outside : Bool}
@@ -72,3 +158,9 @@ module _
 pub outside_observed : (obs : List Observation) (ds : List Requested) → any (is_outside obs) ds ≡ any_outside_of (ranges_of obs) ds
 unfolding any_outside_of observed_min observed_max nearest_of farthest_of outside_of
 outside_observed obs ds = any_listed (is_outside obs) ds
+
+-- the observations' distances in a list of their own, beside two others of its length
+pub outside_requested : (r d s : List Float) (ds : List Requested) → length d ≡ length r → length s ≡ length r
+    → any (is_outside (observations_of r d s)) ds ≡ any_outside_of r ds
+outside_requested r d s ds e g =
+    outside_observed (observations_of r d s) ds ∙ ap (λ (l : List Float). any_outside_of l ds) (observed_ranges r d s e g)

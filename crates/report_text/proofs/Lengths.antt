@@ -248,7 +248,7 @@ approximation_length (told g) h =
     ))
 approximation_length (withheld code) h = short _ (omega (arith, failure_length code))
 
-band_length : (b : CoveredBand) → Few b.latent → Few b.future → length (band_text b) ≤ 1450
+pub band_length : (b : CoveredBand) → Few b.latent → Few b.future → length (band_text b) ≤ 1450
 unfolding band_text
 band_length b h k =
     short _ (omega (arith, double_length b.range, double_length b.predicted_drop, interval_length b.latent h, interval_length b.future k))

@@ -1,14 +1,15 @@
 -- The doubles that have no digits to find: not-a-number, the zeros, the negative ones and infinity, each by the test that the code makes; and the patterns of
 -- the others. Assumes nothing.
-use mathlib.Core.Path.{◌≡◌, refl, sym, ap, ◌∙◌}
+use mathlib.Core.Path.{◌≡◌, refl, sym, ap, ◌∙◌, subst}
 use mathlib.Core.Logic.{◌≢◌}
 use Prim.Native.Nat.{ℕ, zero, suc, ◌*◌, ◌+◌, ◌%◌, ◌/◌, ◌^◌, ◌≤◌, ◌<◌}
-use native.Mathlib.Nat.{lt_of_not-le, mul-pos}
+use native.Mathlib.Nat.{lt_of_not-le, mul-pos, zero-mul}
 use native.Mathlib.Omega.{arith}
-use mathlib.Core.Bool.{Bool, true, false, cond}
+use mathlib.Core.Bool.{Bool, true, false, cond, not, true≢false}
 use borrow.Author.Tests.{eq-eqb, eqb-true, le-leb, ltb-true, ltb-false}
-use lib.Dec.{eqb}
-use lib.Ieee.{Float, nan, inf, fin, binary64, up, down, odd, lt, eq, fits, is_nan, of_fields, of_bits, to_bits}
+use lib.IntN.{ℤ, pos}
+use lib.Dec.{T, eqb}
+use lib.Ieee.{Float, nan, inf, fin, binary64, up, down, odd, lt, eq, ne, div, fits, is_nan, of_fields, of_bits, to_bits}
 use lib.Ieee.Bits.{is_true, of_bits-to_bits}
 use lib.Ieee.Fits.{up_pos, and_l}
 use Rattle.std.proofs.lemmas.Float.{T_from_true, T_from_false}
@@ -27,6 +28,17 @@ unfolding is_nan root_of
 nan_stays nan h = refl
 nan_stays (inf s) h = cc
 nan_stays (fin s m e) h = cc
+
+-- a not-a-number by its own comparison, and made by a division
+pub not_nan : (x : Float) → ne x x ≡ false → T (not (is_nan x))
+unfolding ne is_nan
+not_nan nan h = absurd (true≢false h)
+not_nan (inf s) h = tt
+not_nan (fin s m e) h = tt
+
+pub nan_made : div binary64 (of_bits binary64 0) (of_bits binary64 0) ≡ nan
+unfolding div of_bits
+nan_made = refl
 
 -- what equals zero has no digits
 pub zero_stays : (x : Float) → eq x zero64 ≡ true → x ≡ root_of x
@@ -102,6 +114,43 @@ infinity_is = refl
 zero_is : eq (of_bits binary64 0) zero64 ≡ true
 unfolding eq of_bits
 zero_is = refl
+
+-- what does not equal zero has a pattern above zero's
+pub bits_above_zero : (x : Float) → T (fits binary64 x) → eq x zero64 ≡ false → 0 < to_bits binary64 x
+bits_above_zero x f z = above (to_bits binary64 x) (of_bits-to_bits binary64 x f)
+  where
+    above : (n : ℕ) → of_bits binary64 n ≡ x → 0 < n
+    above zero e = let y = ap (λ (v : Float). eq v zero64) e in let w = zero_is in cc
+    above (suc n) e = omega arith
+
+-- the negative ones and infinity, by their patterns
+minus_zero_equals : (e : ℤ) → eq (fin true 0 e) (fin false 0 (pos 0)) ≡ true
+unfolding eq
+minus_zero_equals e = rw (zero-mul (up e), zero-mul (down e))
+
+none_at : (x : Float) → negative x ≡ true → eq x (fin false 0 (pos 0)) ≡ false → nan ≡ root_of x
+unfolding negative eq root_of
+none_at nan n h = refl
+none_at (inf true) n h = refl
+none_at (inf false) n h = absurd (true≢false (sym n))
+none_at (fin true zero e) n h = absurd (true≢false (sym (minus_zero_equals e) ∙ h))
+none_at (fin true (suc m) e) n h = refl
+none_at (fin false m e) n h = absurd (true≢false (sym n))
+
+zero_digits : zero64 ≡ fin false 0 (pos 0)
+unfolding of_bits
+zero_digits = refl
+
+pub none_below : (x : Float) → T (fits binary64 x) → 2 ^ 63 ≤ to_bits binary64 x → eq x zero64 ≡ false → nan ≡ root_of x
+none_below x f n h =
+    none_at x (ap negative (sym (of_bits-to_bits binary64 x f)) ∙ bits_negative (to_bits binary64 x) n) (rw zero_digits at h)
+
+infinity_root : of_bits binary64 infinity ≡ root_of (of_bits binary64 infinity)
+unfolding of_bits root_of
+infinity_root = refl
+
+pub infinity_by_bits : (x : Float) → T (fits binary64 x) → to_bits binary64 x ≡ infinity → x ≡ root_of x
+infinity_by_bits x f h = subst (λ (y : Float). y ≡ root_of y) (ap (of_bits binary64) (sym h) ∙ of_bits-to_bits binary64 x f) infinity_root
 
 pub positive_bits : (x : Float) → fits binary64 x ≡ true → is_nan x ≡ false → eq x zero64 ≡ false → lt x zero64 ≡ false → float_is_infinite x ≡ false
     → (0 < to_bits binary64 x) × (to_bits binary64 x < infinity)

@@ -43,7 +43,7 @@ abbrev pub evaluation_at : Body → Plan → StencilRows 64 → Evaluated
 evaluation_at b plan t = evaluation_by plan.evaluates b.progress.evaluation b.priors b.progress.point b.shots t
 
 abbrev pub sum_at : Body → Plan → List Entry → Float
-sum_at b plan es = sum_by plan.objective b.shots b.priors (take (length es) (places_of (drops_in es)))
+sum_at b plan es = sum_by plan.objective b.shots b.priors (drops_in es)
 
 -- the arrays of the rows have their 64 places
 abbrev pub Full : StencilRows 64 → Type 0
@@ -67,11 +67,10 @@ module _ (b : Body) (es : List Entry) (t : StencilRows 64) (requested : Bool) (h
   drops_at : length es ≤ 64 → take (length es) (places_of (drops_in es)) ≡ drops_in es
   drops_at n = over_take (drops_in es) (replicate 64 zero64) (length es) (length-map es _) (omega arith)
 
-  value_is : (q : Point) → length es ≤ 64
-      → valued_from (first_at is_missing es) (sum_by (Some q) b.shots b.priors (take (length es) (places_of (drops_in es))))
+  value_is : (q : Point) → valued_from (first_at is_missing es) (sum_by (Some q) b.shots b.priors (drops_in es))
       ≡ likelihood.valued (measured_of b) q (reading_of es)
   unfolding likelihood.valued
-  value_is q n = ap (λ (ds : List Float). valued_from (first_at is_missing es) (likelihood.objective_of (measured_of b) q ds)) (drops_at n)
+  value_is q = refl
 
   -- ---- the rows
 
@@ -121,7 +120,7 @@ module _ (b : Body) (es : List Entry) (t : StencilRows 64) (requested : Bool) (h
   pub laid_at : (ph : Phase) (list : Distances) → (plan_of ph b.entered).asks ≡ Some list → length es ≡ wants_all b (plan_of ph b.entered).asks
       → all_rows t ≡ laid_by (plan_of ph b.entered).lays b.progress.point es (all_rows b.rows) → LaidAt ph
   laid_at Over list a n is = absurd (cc)
-  laid_at Start list a n is = value_is b.entered (omega (arith, shots_within b h))
+  laid_at Start list a n is = value_is b.entered
   laid_at (Evaluation stage k) list a n is = record {
     laid = rows_are k b.shots.n n (shots_within b h) is;
     gap_is = refl;
@@ -130,8 +129,8 @@ module _ (b : Body) (es : List Entry) (t : StencilRows 64) (requested : Bool) (h
     some_requested = λ e z. has.some_of e (wanted_within b h) z;
     none_requested = λ e z. (rw (has.none_of e), rw (has.none_of e, z));
   }
-  laid_at (Trial q) list a n is = value_is q (omega (arith, shots_within b h))
-  laid_at (Look c) list a n is = value_is c (omega (arith, shots_within b h))
+  laid_at (Trial q) list a n is = value_is q
+  laid_at (Look c) list a n is = value_is c
   laid_at (Bands k) list a n is = record {
     laid = rows_are k b.wanted.n n (wanted_within b h) is;
     gap_is = refl;

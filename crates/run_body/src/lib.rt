@@ -1,9 +1,10 @@
 // What a run holds but for which question is open: the request, the rows and the fit so far; and what a reply makes of it.
 #![tactic(auto)]
 
-ghost use Rattle.std.specs.Prelude.{◌≡◌};
+ghost use Rattle.std.specs.Prelude.{◌≡◌, length};
 ghost use Rattle.definition.specs.Meaning.{opening_in};
 ghost use Rattle.stencil.specs.Stencil.{all_rows};
+ghost use Rattle.lists.specs.Lists.{places_of, drops_in};
 ghost use Rattle.run_body.specs.Meaning.{Prepared, laid_by, kept_by, sum_by, evaluation_by, baseline_by};
 
 use definition::{Evaluation, Point, TruingPriorsV1, UncertaintyTruingRequestV1};
@@ -54,12 +55,17 @@ pub fn lay(rows: &mut StencilRows<64>, lays: Option<Lays>, p: Point, entries: &[
     }
 }
 
-// The sum of the objective from a reply's drops, where one is asked for.
-pub fn sum_at(objective: Option<Point>, shots: &Shots, priors: TruingPriorsV1, drops: &[f64]) -> f64
-    ensures { result ≡ sum_by objective shots.now priors drops.now }
+// The sum of the objective from a reply, where one is asked for.
+pub fn sum_at(
+    objective: Option<Point>,
+    shots: &Shots,
+    priors: TruingPriorsV1,
+    entries: &[Option<f64>],
+) -> f64
+    ensures { result ≡ sum_by objective shots.now priors (drops_in entries.now) }
 {
     match objective {
-        Some(q) => shots.columns().objective_sum(priors, q, drops),
+        Some(q) => shots.columns().reply_sum(priors, q, entries),
         None => 0.0,
     }
 }
@@ -82,32 +88,33 @@ pub fn evaluation_at(
 }
 
 // The drops at the fit are kept, where these are.
-pub fn kept(evaluates: Option<Stage>, old: [f64; 64], rows: &StencilRows<64>) -> [f64; 64]
-    ensures { result ≡ kept_by evaluates old rows.now }
+pub fn kept(evaluates: Option<Stage>, old: &mut [f64; 64], rows: &StencilRows<64>)
+    ensures { old.new ≡ kept_by evaluates old.old rows.now }
 {
     match evaluates {
-        Some(Stage::AtFit) if rows.gap == 0 => rows.predicted,
-        _ => old,
+        Some(Stage::AtFit) if rows.gap == 0 => *old = rows.predicted,
+        _ => {}
     }
 }
 
 // The drops at the entered point, where these are: not with a gap, or a sum that is not finite.
 pub fn baseline_at(
     lays: Option<Lays>,
-    old: Option<[f64; 64]>,
+    old: &mut Option<[f64; 64]>,
     found: usize,
     shots: &Shots,
-    drops: [f64; 64],
-    n: usize,
-) -> Option<[f64; 64]>
-    ensures { result ≡ baseline_by lays old found shots.now drops n }
+    entries: &[Option<f64>],
+)
+    ensures { old.new ≡ baseline_by lays old.old found shots.now (places_of (drops_in entries.now)) (length entries.now) }
 {
     match lays {
         Some(Lays::Baseline) => {
+            let drops = lists::drops_of(entries);
+            let n = entries.len();
             let chi = shots.columns().chi_square(slices::first_places(&drops, n));
             let stands = (found == 0) & numeric::is_finite(chi);
-            if stands { Some(drops) } else { None }
+            *old = if stands { Some(drops) } else { None };
         }
-        _ => old,
+        _ => {}
     }
 }

@@ -1,8 +1,11 @@
 -- What a session stands for: what is left of its run.
-use Rattle.std.specs.Prelude.{ℕ, Bool, cond, ◌&&◌}
+use Rattle.std.specs.Prelude.{ℕ, Bool, cond, ◌&&◌, eqb, Option, None, Some}
 use Rattle.definition.specs.Session.{State, over, Seen, Said, question, report, refusal, more_of}
+use Rattle.definition.specs.declared.Distances.{Distances}
+use Rattle.definition.specs.declared.RefusalCode.{RefusalCode}
+use Rattle.definition.specs.declared.RefusalCode.TheVariants.{NoQuestionOpen, WrongEntryCount}
 use Rattle.phases.specs.Phases.{state_at, plan_of}
-use Rattle.run_body.specs.Meaning.{held_of, within_of, sizes_of}
+use Rattle.run_body.specs.Meaning.{held_of, within_of, sizes_of, wanted_by}
 use Rattle.session.specs.declared.Session.{Session}
 
 -- a session that no call gave, beyond the limits of its lists, is over
@@ -23,3 +26,8 @@ abbrev pub counted_by : Said → ℕ → ℕ
 counted_by (question mv bc list) n = more_of n
 counted_by report n = n
 counted_by (refusal number position) n = n
+
+-- why a reply of n entries is declined, if it is, by the distances that the open question is about
+abbrev pub declined_by : Option Distances → ℕ → ℕ → ℕ → Option RefusalCode
+declined_by None n shots wanted = Some NoQuestionOpen
+declined_by (Some list) n shots wanted = cond (eqb n (wanted_by list shots wanted)) None (Some WrongEntryCount)

@@ -6,7 +6,7 @@ ghost use Rattle.definition.specs.Session.{says_of, more_of, Declines, Opened, R
 ghost use Rattle.definition.specs.Meaning.{opening_in};
 ghost use Rattle.definition.specs.Refusals.{number_of};
 ghost use Rattle.run_body.specs.Meaning.{wanted_by};
-ghost use Rattle.session.specs.Meaning.{state, seen, stands_in, counted_by};
+ghost use Rattle.session.specs.Meaning.{state, seen, stands_in, counted_by, declined_by};
 
 use definition::{Distances, Refusal, RefusalCode, Step, UncertaintyTruingRequestV1};
 use phases::{Lays, Phase, Plan};
@@ -73,6 +73,22 @@ fn size_for(list: Distances, shots: usize, wanted: usize) -> usize
     }
 }
 
+// Why a reply of n entries is declined, if it is: no question is open, or the open one wants another number.
+fn declined_by(
+    about: Option<Distances>,
+    n: usize,
+    shots: usize,
+    wanted: usize,
+) -> Option<RefusalCode>
+    ensures { result ≡ declined_by about n shots wanted }
+{
+    match about {
+        None => Some(RefusalCode::NoQuestionOpen),
+        Some(list) if n != size_for(list, shots, wanted) => Some(RefusalCode::WrongEntryCount),
+        Some(_) => None,
+    }
+}
+
 // ---- the opening
 
 // The opening: refused by its checks, or the first question, at the entered point.
@@ -103,52 +119,45 @@ pub fn open(request: UncertaintyTruingRequestV1<'_>) -> Answer
 
 // ---- a reply
 
-// A reply with an entry for each distance of the open question: a drop, or none for one that is missing. The session is copied once: its arrays are lent
-// from locals, no part of it goes by value into a function that is called twice, and one expression makes the answer.
-#[tactic(auto, using(crate::proofs::Replies::replied_declined, crate::proofs::Replies::replied_wrong))]
+// A reply with an entry for each distance of the open question: a drop, or none for one that is missing. The body is changed in place,
+// and no part of the session goes by value into a function that is called twice.
 pub fn reply(s: Session, entries: &[Option<f64>]) -> Answer
     ensures { Replied seen s entries.now (says_of result.step) result.session }
 {
     let entered = s.body.entered;
     let plan = phases::plan_of(s.phase, entered);
-    let shots = s.body.shots;
-    let within = is_within(shots.n, s.body.wanted.n);
-    let Some(list) = open_list(plan, within) else {
-        return declined(s, RefusalCode::NoQuestionOpen);
-    };
+    let within = is_within(s.body.shots.n, s.body.wanted.n);
+    let about = open_list(plan, within);
     let n = entries.len();
-    if n != size_for(list, shots.n, s.body.wanted.n) {
-        return declined(s, RefusalCode::WrongEntryCount);
+    if let Some(code) = declined_by(about, n, s.body.shots.n, s.body.wanted.n) {
+        return declined(s, code);
     }
+    let (phase, asked) = (s.phase, s.asked);
     let g = s.body.progress;
     let priors = s.body.priors;
     let requested = lists::has_wanted(s.body.wanted);
-    let drops = lists::drops_of(entries);
+    let mut body = s.body;
     let found = likelihood::first_gap(entries);
-    let mut rows = s.body.rows;
-    run_body::lay(&mut rows, plan.lays, g.point, entries);
-    let sum = run_body::sum_at(
-        plan.objective,
-        &shots,
+    run_body::lay(&mut body.rows, plan.lays, g.point, entries);
+    let sum = run_body::sum_at(plan.objective, &body.shots, priors, entries);
+    let e = run_body::evaluation_at(
+        plan.evaluates,
+        g.evaluation,
         priors,
-        slices::first_places(&drops, n),
+        g.point,
+        &body.shots,
+        &body.rows,
     );
-    let e = run_body::evaluation_at(plan.evaluates, g.evaluation, priors, g.point, &shots, &rows);
-    let predicted = run_body::kept(plan.evaluates, s.body.predicted, &rows);
-    let baseline = run_body::baseline_at(plan.lays, s.body.baseline, found, &shots, drops, n);
-    let next = phases::advance(s.phase, g, e, found, sum, rows.gap, requested, entered);
+    run_body::kept(plan.evaluates, &mut body.predicted, &body.rows);
+    run_body::baseline_at(plan.lays, &mut body.baseline, found, &body.shots, entries);
+    let next = phases::advance(phase, g, e, found, sum, body.rows.gap, requested, entered);
+    body.progress = next.progress;
     Answer {
         step: next.step,
         session: Session {
-            body: Body {
-                rows,
-                progress: next.progress,
-                predicted,
-                baseline,
-                ..s.body
-            },
+            body,
             phase: next.phase,
-            asked: counted(s.asked, next.step),
+            asked: counted(asked, next.step),
         },
     }
 }

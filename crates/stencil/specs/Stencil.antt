@@ -1,6 +1,6 @@
 -- The five questions about a list of distances (`truing_jacobian_rows`), one after another: what is left of them before each reply, and the rows with one reply
 -- more.
-use Rattle.std.specs.Prelude.{ℕ, List, map, take, Option, None, Some}
+use Rattle.std.specs.Prelude.{ℕ, List, [], ◌∷◌, map, take, Option, None, Some}
 use Rattle.definition.specs.Lists.{first_of}
 use Rattle.definition.specs.Run.{Run, done, Entry, Reading, reading_of, drop_or0, Which}
 use Rattle.definition.specs.Likelihood as likelihood
@@ -28,6 +28,10 @@ point_at MvPlus p = likelihood.mv_plus_at p
 point_at MvMinus p = likelihood.mv_minus_at p
 point_at BcPlus p = likelihood.bc_plus_at p
 point_at BcMinus p = likelihood.bc_minus_at p
+
+-- the five questions in order
+abbrev pub five : List StencilPoint
+five = Nominal ∷ MvPlus ∷ MvMinus ∷ BcPlus ∷ BcMinus ∷ []
 
 -- the question after it, if it is not the last
 abbrev pub next_of : StencilPoint → Option StencilPoint

@@ -2,8 +2,8 @@
 // distance are filled by the same method.
 #![tactic(auto)]
 
-ghost use Rattle.std.specs.Prelude.{◌≡◌};
-ghost use Rattle.stencil.specs.Stencil.{point_at, next_of};
+ghost use Rattle.std.specs.Prelude.{◌≡◌, slice_get};
+ghost use Rattle.stencil.specs.Stencil.{five, point_at, next_of};
 
 use definition::Point;
 use likelihood::RowColumns;
@@ -19,6 +19,20 @@ pub enum StencilPoint {
 }
 
 impl StencilPoint {
+    // The k-th of the five, counted from 0, where a caller has a number; beyond the last there is none.
+    pub fn nth(k: usize) -> Option<StencilPoint>
+        ensures { result ≡ slice_get five k }
+    {
+        match k {
+            0 => Some(StencilPoint::Nominal),
+            1 => Some(StencilPoint::MvPlus),
+            2 => Some(StencilPoint::MvMinus),
+            3 => Some(StencilPoint::BcPlus),
+            4 => Some(StencilPoint::BcMinus),
+            _ => None,
+        }
+    }
+
     // Where the question is put.
     #[tactic(auto, unfolding(definition::specs::Likelihood::mv_plus_at, definition::specs::Likelihood::mv_minus_at, definition::specs::Likelihood::bc_plus_at, definition::specs::Likelihood::bc_minus_at))]
     pub fn at(self, p: Point) -> Point

@@ -42,6 +42,10 @@ pub record Reads (r : Reader) (s : List ℕ) : Type 0 where
   pub begun : r.begun ≡ some s
   pub word : r.word.items ≡ take 32 (cut_from uncut s).word
 
+-- the reader whose line has the word that is read, the last or one with a blank behind it
+abbrev pub taken_of : Reader → Bool → Reader
+taken_of r last = record { line = take_of r.line r.word.items r.first last; word = r.word; first = r.first; begun = r.begun }
+
 -- ---- the first line of some bytes
 
 -- the bytes before the first line feed, whether there is one, and what follows it

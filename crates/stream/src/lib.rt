@@ -1,11 +1,10 @@
 // Standard input as it comes, in any pieces: bytes become lines, and each line gets its answer in a lent buffer.
 #![tactic(auto)]
 
-ghost use Rattle.std.specs.Prelude.{◌≡◌, true, false, List, [], ◌∷◌, ◌++◌, ℕ};
-ghost use Rattle.lines.specs.Reading.{take_of};
+ghost use Rattle.std.specs.Prelude.{◌≡◌, List, [], ◌∷◌, ◌++◌, ℕ};
 ghost use Rattle.coverage.specs.Table.{rows_in};
 ghost use Rattle.conversation.specs.Conversation.{initial};
-ghost use Rattle.stream.specs.Bytes.{Reads, Scans, Holds, Feeds, Finishes};
+ghost use Rattle.stream.specs.Bytes.{taken_of, Reads, Scans, Holds, Feeds, Finishes};
 
 use conversation::Conversation;
 use coverage::Table;
@@ -34,26 +33,11 @@ impl Reader {
         }
     }
 
-    // The line with the word that is read, with a blank behind it.
-    #[tactic(auto, unfolding(lines::specs::Reading::take_of))]
-    fn taken(&self) -> Option<Line>
-        ensures { result ≡ take_of self.now.line self.now.word.items self.now.first false }
+    // The line with the word that is read: with a blank behind it, or as the last.
+    fn take(&mut self, last: bool)
+        ensures { self.new ≡ taken_of self.old last }
     {
-        match self.line {
-            Some(line) => line.take(self.word.as_slice(), self.first),
-            None => None,
-        }
-    }
-
-    // The line, whose last word that is.
-    #[tactic(auto, unfolding(lines::specs::Reading::take_of))]
-    fn ended(&self) -> Option<Line>
-        ensures { result ≡ take_of self.now.line self.now.word.items self.now.first true }
-    {
-        match self.line {
-            Some(line) => line.end(self.word.as_slice(), self.first),
-            None => None,
-        }
+        lines::take_word(&mut self.line, self.word.as_slice(), self.first, last);
     }
 
     // A byte of the line more.
@@ -62,7 +46,7 @@ impl Reader {
     {
         self.begun = true;
         if c == b' ' {
-            self.line = self.taken();
+            self.take(false);
             self.word = FixedList::new();
             self.first = false;
         } else {
@@ -118,7 +102,8 @@ impl State {
                 len: 0,
             };
         };
-        let line = self.reader.ended();
+        self.reader.take(true);
+        let line = self.reader.line;
         self.reader = Reader::new();
         let len = self.conversation.answer(line, out);
         Fed { at: next, len }

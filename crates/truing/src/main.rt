@@ -17,7 +17,8 @@ ghost use Rattle.stream.specs.Bytes.{Holds, Feeds, Finishes};
 
 use coverage::{Loader, Table, TableRefusal};
 use report_text::{Text, Writer};
-use std::{env, fs, io};
+use std::env::{Env, FillError};
+use std::{fs, io};
 use stream::{Fed, State};
 use words::Word;
 
@@ -151,7 +152,12 @@ fn load_all<R: io::Read>(file: &mut R) -> io::Result<Loader> {
     Ok(l)
 }
 
-fn load_file(rt: &HostRuntime, name: &str) -> io::Result<Loader> {
+// The file that the first argument names. A name of more bytes than a path can have, or that is not UTF-8, is none that can be opened.
+fn load_file(rt: &HostRuntime) -> io::Result<Loader> {
+    let mut space = [0u8; 4096];
+    let none = io::ErrorKind::InvalidInput;
+    let n = rt.arg(1, &mut space).map_err(|_| io::Error::from(none))?;
+    let name = str::from_utf8(slices::first_places(&space, n)).map_err(|_| io::Error::from(none))?;
     let mut file = fs::open(rt, name)?;
     load_all(&mut file)
 }
@@ -172,18 +178,19 @@ fn serve_under(rt: &HostRuntime, file: io::Result<Loader>) {
     }
 }
 
-// Without an argument there is the built-in table. An argument that is not UTF-8 names no file that can be opened.
+// Whether there is a k-th argument, whatever its bytes are. The program's own name, which is argument 0, is never read.
+fn has_argument(rt: &HostRuntime, k: usize) -> bool {
+    !matches!(rt.arg(k, &mut []), Err(FillError::NotPresent))
+}
+
+// Without an argument there is the built-in table.
 fn main(rt: HostRuntime) {
-    let mut arguments = match env::args(&rt) {
-        Ok(arguments) => arguments.skip(1),
-        Err(e) => return serve_under(&rt, Err(e)),
-    };
-    let Some(name) = arguments.next() else {
+    if !has_argument(&rt, 1) {
         return serve(&rt, Table::single());
-    };
-    if arguments.next().is_some() {
+    }
+    if has_argument(&rt, 2) {
         let _said = eprintln!(rt; "usage: truing [COVERAGE-FILE]").is_ok();
         return;
     }
-    serve_under(&rt, load_file(&rt, name.as_str()));
+    serve_under(&rt, load_file(&rt));
 }

@@ -1,9 +1,12 @@
 // The fixed words of the line protocol, those that are read and those that are written.
 #![tactic(auto)]
 
-ghost use Rattle.std.specs.Prelude.{◌≡◌, find};
-ghost use Rattle.words.specs.Words.{same, place_in, word_at, found};
-ghost use Rattle.words.specs.Low.{low};
+ghost use Rattle.std.specs.Prelude.{◌≡◌, find, slice_get};
+ghost use Rattle.words.specs.Words.{same, place_in, place_by, word_at, found};
+ghost use Rattle.words.specs.Low.{low, with_length};
+
+// The number of words.
+pub const COUNT: usize = 43;
 
 // In the order of the table, so that a word's number is its place.
 #[derive(Clone, Copy, PartialEq, Eq)]
@@ -53,7 +56,7 @@ pub enum Word {
     Page,
 }
 
-static ALL: [Word; 43] = [
+static ALL: [Word; COUNT] = [
     Word::Entered,
     Word::Shot,
     Word::Prior,
@@ -100,6 +103,21 @@ static ALL: [Word; 43] = [
 ];
 
 impl Word {
+    pub fn number(self) -> usize
+        ensures { result ≡ place_in self }
+    {
+        self as usize
+    }
+
+    // The word of that number, none past the table.
+    #[tactic(auto, using(crate::proofs::Found::number_text))]
+    pub fn at(k: usize) -> Option<Word>
+        ensures value { result ≡ slice_get ALL k }
+        ensures text { word_at (place_by result) ≡ word_at k }
+    {
+        nth(&ALL, k)
+    }
+
     #[tactic(auto, unfolding(crate::specs::Words::word_at))]
     pub fn text(self) -> &'static [u8]
         ensures { result.now ≡ word_at (place_in self) }
@@ -159,6 +177,12 @@ impl Word {
     }
 }
 
+fn nth(among: &[Word], k: usize) -> Option<Word>
+    ensures { result ≡ slice_get among.now k }
+{
+    among.get(k).copied()
+}
+
 // Whether s begins before the letters, as numbers mostly do.
 fn is_low(s: &[u8]) -> bool
     ensures { result ≡ low s.now }
@@ -167,18 +191,67 @@ fn is_low(s: &[u8]) -> bool
 }
 
 // The word that s is.
-#[tactic(auto, using(crate::proofs::Found::found_by, crate::proofs::Found::low_found))]
+#[tactic(auto, using(crate::proofs::Found::low_found))]
 pub fn find(s: &[u8]) -> Option<Word>
     ensures { result ≡ found s.now }
 {
     if is_low(s) {
         return None;
     }
-    search(s)
+    search(of_length(s.len()), s)
 }
 
-fn search(s: &[u8]) -> Option<Word>
-    ensures { result ≡ find (λ w. same s.now (word_at (place_in w))) ALL }
+// The first of these words that s is.
+fn search(among: &[Word], s: &[u8]) -> Option<Word>
+    ensures { result ≡ find (λ w. same s.now (word_at (place_in w))) among.now }
 {
-    ALL.iter().copied().find(|w| w.is(s))
+    among.iter().copied().find(|w| w.is(s))
+}
+
+// The words of n bytes, in the order of the table.
+#[tactic(auto, unfolding(crate::specs::Words::word_at))]
+fn of_length(n: usize) -> &'static [Word]
+    ensures { result.now ≡ with_length n ALL }
+{
+    match n {
+        2 => &[Word::No],
+        3 => &[Word::Yes, Word::New],
+        4 => &[Word::Shot, Word::Open, Word::None, Word::Page],
+        5 => &[
+            Word::Prior,
+            Word::Drops,
+            Word::Asked,
+            Word::Speed,
+            Word::Plain,
+            Word::Shots,
+        ],
+        6 => &[Word::PutIn, Word::Report],
+        7 => &[Word::Entered, Word::Refused, Word::Missing],
+        8 => &[
+            Word::Distance,
+            Word::TakeOut,
+            Word::Exchange,
+            Word::Question,
+            Word::Declined,
+        ],
+        9 => &[Word::Available, Word::Distances, Word::Malformed],
+        11 => &[Word::Coefficient, Word::Unavailable],
+        13 => &[Word::ObjectiveMesh],
+        14 => &[Word::ScaledGradient],
+        16 => &[Word::MvPriorDominated, Word::BcPriorDominated],
+        17 => &[Word::WeakBcSensitivity],
+        18 => &[Word::IllConditionedData],
+        19 => &[Word::MapAtParameterBound],
+        20 => &[Word::NonFiniteInformation],
+        23 => &[Word::OptimizerDidNotConverge],
+        24 => &[
+            Word::ObjectiveMeshConvergence,
+            Word::IntervalCrossesFitBounds,
+            Word::RankDeficientInformation,
+        ],
+        28 => &[Word::LowEffectiveDegreesOfFreedom],
+        31 => &[Word::PredictionOutsideObservedDomain],
+        32 => &[Word::GaussianApproximationUnavailable],
+        _ => &[],
+    }
 }

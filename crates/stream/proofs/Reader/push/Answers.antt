@@ -1,13 +1,17 @@
 -- `stream::Reader::push` meets its contract. Assumes nothing.
+use Rattle.std.proofs.Common.{false, refl}
 use borrow.Author.Tests.{eq-eqb, ne_eqb}
 use Rattle.fixed_list.proofs.Pushed.{pushed_first}
+use Rattle.lines.specs.Reading.{take_of}
 use Rattle.stream.specs.Bytes.{uncut, cut_from}
 use Rattle.stream.proofs.Bytes.{reads_blank, reads_more}
 use Rattle.stream.proofs.Reader.push.Goals as goal
 
 pub returns-then-c-eq32 : goal.returns-then-c-eq32
 returns-then-c-eq32 c = λ s k.
-    reads_blank c.args.self.now s k c.args.c c.taken-self.result c.new-self.result (eq-eqb c.args.c 32 c.if-c-eq32.true) c.taken-self.ensures c.new-self.ensures
+    let h = c.args.self.now in
+    rw c.take.ensures
+    (reads_blank h s k c.args.c (take_of h.line h.word.items h.first false) c.new-self.result (eq-eqb c.args.c 32 c.if-c-eq32.true) refl c.new-self.ensures)
 
 pub returns-else-c-eq32 : goal.returns-else-c-eq32
 returns-else-c-eq32 c = λ s k.

@@ -10,7 +10,7 @@ returns-in_default c = feed_none c.args.self.now c.args.bytes.now c.args.at c.sc
 pub returns : goal.returns
 returns c =
     let q = c.scan.new.self in
-    feed_line c.args.self.now c.args.bytes.now c.args.at q c.in-Some.next c.in-Some.ensures c.args.out.now c.answer-len.new.out c.ended-line.result
+    feed_line c.args.self.now c.args.bytes.now c.args.at q c.in-Some.next c.in-Some.ensures c.args.out.now c.answer-len.new.out c.take.new.self.line
     c.answer-len.new.self c.answer-len.result c.new-self.result
-    (λ s k. ap form_if c.ended-line.ensures ∙ ends_line q s k)
+    (λ s k. ap (λ r. form_if r.line) c.take.ensures ∙ ends_line q s k)
     c.answer-len.ensures c.new-self.ensures
