@@ -121,17 +121,16 @@ fn read_some<R: io::Read>(
 }
 
 // A proved loop has to end, and nothing says that the input does: no run uses up this count.
-fn serve(rt: &HostRuntime, table: Table) {
-    let mut out = [0u8; 131072];
+fn serve(rt: &HostRuntime, table: Table, out: &mut [u8; 131072]) {
     let mut input = rt.reader();
     let mut state = begin(table);
     for _ in 0..u64::MAX {
-        if !read_some(rt, &mut input, &mut state, &mut out) {
+        if !read_some(rt, &mut input, &mut state, out) {
             break;
         }
     }
-    let len = finish(&state, &mut out);
-    write_out(rt, &out, len);
+    let len = finish(&state, out);
+    write_out(rt, out, len);
 }
 
 // Reads once: whether there may be more.
@@ -163,18 +162,17 @@ fn load_file(rt: &HostRuntime) -> io::Result<Loader> {
 }
 
 // A refused table: its refusal is the only line.
-fn decline(rt: &HostRuntime, refusal: TableRefusal) {
-    let mut out = [0u8; 131072];
-    let len = put_refusal(refusal, &mut out);
-    write_out(rt, &out, len);
+fn decline(rt: &HostRuntime, refusal: TableRefusal, out: &mut [u8; 131072]) {
+    let len = put_refusal(refusal, out);
+    write_out(rt, out, len);
 }
 
 // A file that cannot be opened or read is an empty one.
-fn serve_under(rt: &HostRuntime, file: io::Result<Loader>) {
+fn serve_under(rt: &HostRuntime, file: io::Result<Loader>, out: &mut [u8; 131072]) {
     let l = file.unwrap_or(load_start());
     match loaded(l) {
-        Ok(table) => serve(rt, table),
-        Err(refusal) => decline(rt, refusal),
+        Ok(table) => serve(rt, table, out),
+        Err(refusal) => decline(rt, refusal, out),
     }
 }
 
@@ -183,14 +181,16 @@ fn has_argument(rt: &HostRuntime, k: usize) -> bool {
     !matches!(rt.arg(k, &mut []), Err(FillError::NotPresent))
 }
 
-// Without an argument there is the built-in table.
+// Without an argument there is the built-in table. The buffer of the answers is made once, whatever is served.
 fn main(rt: HostRuntime) {
-    if !has_argument(&rt, 1) {
-        return serve(&rt, Table::single());
-    }
     if has_argument(&rt, 2) {
         let _said = eprintln!(rt; "usage: truing [COVERAGE-FILE]").is_ok();
         return;
     }
-    serve_under(&rt, load_file(&rt));
+    let mut out = [0u8; 131072];
+    if has_argument(&rt, 1) {
+        serve_under(&rt, load_file(&rt), &mut out);
+    } else {
+        serve(&rt, Table::single(), &mut out);
+    }
 }
