@@ -1,16 +1,11 @@
 -- Lists in the first places of arrays, over plain values: what the arrays of a request hold. Assumes nothing.
 use Rattle.std.proofs.Common.{◌≡◌, ℕ, zero, suc, ◌+◌, ◌<◌, ◌≤◌, min, List, [], ◌∷◌, ◌++◌, length, take, drop, set, get_or, replicate, map, refl, ap, ◌∙◌, add-one, arith}
-use Rattle.std.specs.Prelude.{Bool, true, false, not, ◌&&◌, Float}
+use Rattle.std.specs.Prelude.{Float}
 use Rattle.std.specs.Float.{nan}
-use Rattle.std.proofs.lemmas.Bool.{and_parts, not-true}
-use lib.Ieee.{lt, le, is_nan, of_bits}
-use lib.Ieee as ieee
 use Rattle.std.proofs.Math.ListN.{length-map, length-take, get_or-map}
-use Rattle.numeric.specs.Numeric.{zero64, finite}
-use Rattle.numeric.proofs.Order.{at_least}
+use Rattle.numeric.specs.Numeric.{zero64}
 use Rattle.definition.specs.Request.{Observation, Requested}
 use Rattle.definition.specs.Meaning.{observations_of}
-use Rattle.definition.specs.Whole.{positive_of}
 use Rattle.slices.specs.Slices.{laid_over}
 use Rattle.likelihood.proofs.Laws.{over_take, over_suc, over_all}
 use Rattle.lists.specs.Lists.{observations_at, requested_in, places_of, no_request, shots_from, wanted_from}
@@ -49,24 +44,6 @@ pub column_all : (f : Observation → Float) (xs : List Observation) (a : List F
 column_all f xs a i h e = let l = length-map xs f in e ∙ over_all (map f xs) (replicate 64 zero64) i (omega (arith, l, h))
 
 -- ---- the requested distances
-
-finite_number : (x : Float) → finite x ≡ true → is_nan x ≡ false
-unfolding finite is_nan
-finite_number ieee.nan e = cc
-finite_number (ieee.inf s) e = cc
-finite_number (ieee.fin s m e) h = refl
-
--- what passes the test of a sigma is above 0
-pub positive_above : (x : Float) → positive_of x ≡ true → lt zero64 x ≡ true
-unfolding positive_of is_nan of_bits
-positive_above x h = go (lt zero64 x) refl
-  where
-    parts : (finite x ≡ true) × (not (le x zero64) ≡ true)
-    parts = and_parts (finite x) (not (le x zero64)) h
-
-    go : (b : Bool) → lt zero64 x ≡ b → b ≡ true
-    go true e = refl
-    go false e = let l = at_least zero64 x refl (finite_number x parts.0) e in let n = not-true (le x zero64) parts.1 in cc
 
 pub wanted_requested : (ds : List Requested) → length ds ≤ 64 → requested_in (wanted_from ds) ≡ ds
 wanted_requested ds h = over_take ds (replicate 64 no_request) (length ds) refl h

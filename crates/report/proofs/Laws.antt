@@ -1,7 +1,6 @@
 -- The places and the lengths of the lists, and that a list is read whole by its places.
-use Rattle.std.proofs.Common.{◌≡◌, ℕ, Bool, zero, suc, ◌<◌, ◌≤◌, List, [], ◌∷◌, length, get_or, refl, sym, ap, ◌∙◌, arith}
+use Rattle.std.proofs.Common.{◌≡◌, ℕ, Bool, zero, suc, List, [], ◌∷◌, length, refl, sym, ap, ◌∙◌, arith}
 use Rattle.std.specs.Prelude.{Option, None, Some, Float, is_some, slice_get}
-use Rattle.std.proofs.lemmas.Option.{slice_get-get_or, slice_get_past}
 use Rattle.definition.specs.Lists.{any, zip_with, zip_with3}
 use Rattle.definition.specs.Request.{Observation, Requested}
 use Rattle.definition.specs.Summary.{
@@ -83,13 +82,6 @@ three f (Some a) (Some b) None = None
 three f (Some a) None c = None
 three f None b c = None
 
-module _ {A : Type 0} where
-  pub nth_at : (d : A) (xs : List A) (i : ℕ) → i < length xs → slice_get xs i ≡ Some (get_or xs i d)
-  nth_at d xs i h = slice_get-get_or xs i d h
-
-  pub nth_past : (xs : List A) (i : ℕ) → length xs ≤ i → slice_get xs i ≡ None
-  nth_past xs i h = slice_get_past xs i h
-
 -- nothing goes with what is not there
 both_none : {A B C : Type 0} (f : A → B → C) (o : Option A) → both f o None ≡ None
 both_none f None = refl
@@ -133,11 +125,6 @@ results_at_lem r d s p i =
 pub bands_at_lem : (a : Approximation) (ds : List Requested) (rows : List Row) (i : ℕ)
     → slice_get (zip_with (band_of a) ds rows) i ≡ both (band_of a) (slice_get ds i) (slice_get rows i)
 bands_at_lem a ds rows i = nth_zip (band_of a) ds rows i
-
--- three lists of one length, read together, have that length
-pub zip3_length : {A B C D : Type 0} (f : A → B → C → D) (xs : List A) (ys : List B) (zs : List C) → length ys ≡ length xs → length zs ≡ length xs
-    → length (zip_with3 f xs ys zs) ≡ length xs
-zip3_length f xs ys zs e g = omega (arith, zips.zip3_length f xs ys zs)
 
 -- ---- the head
 

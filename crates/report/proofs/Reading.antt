@@ -6,7 +6,6 @@ use mathlib.Core.List.{List}
 use native.Mathlib.Omega.{arith}
 use lib.ListN.{length}
 use Rattle.definition.specs.Summary.{Report, Band}
-use Rattle.definition.specs.Summary as summary
 use Rattle.report.specs.Report.{Results, baseline_says, seen_of}
 use Rattle.report.specs.declared.TruingBaselineV1.{TruingBaselineV1}
 use Rattle.report.specs.declared.UncertaintyTruingReportV1.{UncertaintyTruingReportV1}
