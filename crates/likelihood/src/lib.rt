@@ -158,7 +158,7 @@ impl Columns<'_> {
     }
 
     // The squared standardized residuals of a reply, 0 in place of a missing drop.
-    // Kept: beside the sum over drops. To lay them out of a reply first costs a question at 64 observations a tenth.
+    // Kept: beside the sum over drops. To lay them out of a reply first costs a question at 64 observations one in twenty of its instructions.
     #[tactic(auto, unfolding(definition::specs::Likelihood::chi_square_of))]
     fn reply_chi_square(self, entries: &[Option<f64>]) -> f64
         ensures { result ≡ chi_square_of (observations_in self.entry) (map drop_or0 entries.now) }
