@@ -56,7 +56,7 @@ pub fn lay(rows: &mut StencilRows<64>, lays: Option<Lays>, p: Point, entries: &[
 }
 
 // The sum of the objective from a reply, where one is asked for.
-pub fn sum_at(
+pub fn reply_sum_at(
     objective: Option<Point>,
     shots: &Shots,
     priors: TruingPriorsV1,
@@ -68,6 +68,14 @@ pub fn sum_at(
         Some(q) => shots.columns().reply_sum(priors, q, entries),
         None => 0.0,
     }
+}
+
+// The same from a reply's drops, for a caller that has them laid out.
+pub fn sum_at(objective: Option<Point>, shots: &Shots, priors: TruingPriorsV1, drops: &[f64]) -> f64
+    ensures { result ≡ sum_by objective shots.now priors drops.now }
+{
+    let Some(q) = objective else { return 0.0 };
+    shots.columns().objective_sum(priors, q, drops)
 }
 
 // The evaluation from whole rows, else the one before.
@@ -98,7 +106,7 @@ pub fn kept(evaluates: Option<Stage>, old: &mut [f64; 64], rows: &StencilRows<64
 }
 
 // The drops at the entered point, where these are: not with a gap, or a sum that is not finite.
-pub fn baseline_at(
+pub fn reply_baseline_at(
     lays: Option<Lays>,
     old: &mut Option<[f64; 64]>,
     found: usize,
@@ -116,5 +124,89 @@ pub fn baseline_at(
             *old = if stands { Some(drops) } else { None };
         }
         _ => {}
+    }
+}
+
+// The same of n drops that a caller has laid out, beside the baseline before.
+pub fn baseline_at(
+    lays: Option<Lays>,
+    old: Option<[f64; 64]>,
+    found: usize,
+    shots: &Shots,
+    drops: [f64; 64],
+    n: usize,
+) -> Option<[f64; 64]>
+    ensures { result ≡ baseline_by lays old found shots.now drops n }
+{
+    let Some(Lays::Baseline) = lays else {
+        return old
+    };
+    let sum = shots.columns().chi_square(slices::first_places(&drops, n));
+    if (found == 0) & numeric::is_finite(sum) {
+        Some(drops)
+    } else {
+        None
+    }
+}
+
+#[cfg(test)]
+mod tests {
+    use super::*;
+    use definition::{NormalPriorV1, WeightedTruingObservationV1};
+
+    fn shot(range_yd: f64, drop: f64, sigma: f64) -> WeightedTruingObservationV1 {
+        WeightedTruingObservationV1 {
+            range_yd,
+            drop,
+            sigma,
+        }
+    }
+
+    // Both drops are two of their sigmas away, and the speed three: 4 + 4, and 9 from the prior.
+    #[test]
+    fn sum_of_drops(rt: HostRuntime) {
+        let shots = Shots::new(&[shot(200.0, 10.0, 2.0), shot(400.0, 20.0, 0.5)]);
+        let priors = TruingPriorsV1 {
+            muzzle_velocity_fps: Some(NormalPriorV1 {
+                mean: 2800.0,
+                sigma: 10.0,
+            }),
+            ballistic_coefficient: None,
+        };
+        let q = Point {
+            mv: 2830.0,
+            bc: 0.5,
+        };
+        assert_eq!(rt; sum_at(Some(q), &shots, priors, &[14.0, 21.0]), 17.0);
+        assert_eq!(rt;
+            sum_at(Some(q), &shots, priors, &[14.0]),
+            13.0,
+            "the second has no drop"
+        );
+        assert_eq!(rt; sum_at(None, &shots, priors, &[14.0, 21.0]), 0.0);
+    }
+
+    #[test]
+    fn baseline_of_drops(rt: HostRuntime) {
+        let shots = Shots::new(&[shot(200.0, 10.0, 2.0), shot(400.0, 20.0, 0.5)]);
+        let old = Some([3.0; 64]);
+        let mut drops = [0.0; 64];
+        drops[0] = 14.0;
+        drops[1] = 21.0;
+        let entered = Some(Lays::Baseline);
+        assert_eq!(rt; baseline_at(entered, old, 0, &shots, drops, 2), Some(drops));
+        assert_eq!(rt;
+            baseline_at(entered, old, 1, &shots, drops, 2),
+            None,
+            "a gap"
+        );
+        assert_eq!(rt; baseline_at(None, old, 0, &shots, drops, 2), old);
+        drops[1] = f64::INFINITY;
+        assert_eq!(rt;
+            baseline_at(entered, old, 0, &shots, drops, 2),
+            None,
+            "no finite sum"
+        );
+        assert_eq!(rt; baseline_at(entered, old, 0, &shots, drops, 1), Some(drops));
     }
 }

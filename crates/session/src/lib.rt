@@ -139,7 +139,7 @@ pub fn reply(s: Session, entries: &[Option<f64>]) -> Answer
     let mut body = s.body;
     let found = likelihood::first_gap(entries);
     run_body::lay(&mut body.rows, plan.lays, g.point, entries);
-    let sum = run_body::sum_at(plan.objective, &body.shots, priors, entries);
+    let sum = run_body::reply_sum_at(plan.objective, &body.shots, priors, entries);
     let e = run_body::evaluation_at(
         plan.evaluates,
         g.evaluation,
@@ -149,7 +149,7 @@ pub fn reply(s: Session, entries: &[Option<f64>]) -> Answer
         &body.rows,
     );
     run_body::kept(plan.evaluates, &mut body.predicted, &body.rows);
-    run_body::baseline_at(plan.lays, &mut body.baseline, found, &body.shots, entries);
+    run_body::reply_baseline_at(plan.lays, &mut body.baseline, found, &body.shots, entries);
     let next = phases::advance(phase, g, e, found, sum, body.rows.gap, requested, entered);
     body.progress = next.progress;
     Answer {

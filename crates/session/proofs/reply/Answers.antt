@@ -20,9 +20,9 @@ returns c =
     let s = a.s in
     let d : why s a.entries.now (asks_in s) ≡ None = cc in
     let l : Full s.body.rows = search rules in
-    rw (c.counted.ensures, c.kept.ensures, c.baseline_at.ensures, c.plan_of-plan.ensures, c.first_gap-found.ensures)
+    rw (c.counted.ensures, c.kept.ensures, c.reply_baseline_at.ensures, c.plan_of-plan.ensures, c.first_gap-found.ensures)
     (replied_on s a.entries.now c.lay.new.rows c.has_wanted-requested.result c.advance-next.result d l
     c.has_wanted-requested.ensures
     (rw c.plan_of-plan.ensures at c.lay.ensures)
-    (rw (c.first_gap-found.ensures, c.sum_at-sum.ensures, c.evaluation_at-e.ensures, c.plan_of-plan.ensures)
+    (rw (c.first_gap-found.ensures, c.reply_sum_at-sum.ensures, c.evaluation_at-e.ensures, c.plan_of-plan.ensures)
     at c.advance-next.ensures))
