@@ -70,7 +70,8 @@ pub fn reply_sum_at(
     }
 }
 
-// The same from a reply's drops, for a caller that has them laid out.
+// The same from a reply's drops.
+// Kept: this and `baseline_at` are for callers that have the drops laid out (docs/DECISIONS.md 119). No crate here calls them.
 pub fn sum_at(objective: Option<Point>, shots: &Shots, priors: TruingPriorsV1, drops: &[f64]) -> f64
     ensures { result ≡ sum_by objective shots.now priors drops.now }
 {
@@ -127,7 +128,7 @@ pub fn reply_baseline_at(
     }
 }
 
-// The same of n drops that a caller has laid out, beside the baseline before.
+// The same of the first n drops, and the baseline before in place of a lent one.
 pub fn baseline_at(
     lays: Option<Lays>,
     old: Option<[f64; 64]>,
@@ -201,6 +202,8 @@ mod tests {
             "a gap"
         );
         assert_eq!(rt; baseline_at(None, old, 0, &shots, drops, 2), old);
+        let row = Some(Lays::Row(stencil::StencilPoint::Nominal));
+        assert_eq!(rt; baseline_at(row, old, 0, &shots, drops, 2), old);
         drops[1] = f64::INFINITY;
         assert_eq!(rt;
             baseline_at(entered, old, 0, &shots, drops, 2),
